@@ -1,0 +1,187 @@
+-- What is promised of pack, check and unpack, each promise with one line of plain words.
+use mathlib.Core.Path.{_≡_, refl, sym, ap, _∙_}
+use mathlib.Core.Logic.{_↔_}
+use mathlib.Core.List.{List, [], _∷_, _++_, map}
+use Prim.Native.Nat.{ℕ, _+_, _%_, _^_, _≤_, _<_}
+use native.Mathlib.Omega.{arith}
+use lib.Count.{leadingZeros, trailingZeros}
+use lib.ListN.{length, take, drop, length-drop, take-append-drop}
+use Rattle.words.specs.Words.{Words, add64, sub64, shiftedLeft, shiftedRight, lowBits, xor, zeroBytes}
+use Rattle.blocks.specs.Predictors.{cleared, fcmPrediction, dfcmPrediction, stride, nextFcmHash, nextDfcmHash, learn}
+use Rattle.blocks.specs.Codes.{fcmResidual, dfcmResidual, dfcmChosen, lowThree, written, codedBy, chosen, codedWord, residualBytes}
+use Rattle.blocks.specs.Block.{block, body, worst, count, statedLength, residualsAt, countedCodes, lastHalf, cost}
+use Rattle.blocks.specs.Numbers.{tOf, over, check, firstFailure, left, fillerStands, blockNumber}
+use Rattle.blocks.specs.Calls.{Packs, checked, Unpacks}
+use Rattle.blocks.specs.Worked.{cases, made, worked}
+use Rattle.blocks.specs.declared.Packed.{Packed}
+use Rattle.blocks.specs.declared.Checked.{Checked}
+use Rattle.blocks.specs.declared.Unpacked.{Unpacked}
+use Rattle.blocks.proofs.Tables.{sized-power}
+use Rattle.blocks.proofs.Accept.{packable, packable-packs, whole, whole-checks, unpackable, unpackable-unpacks, packs-number, checks-number, unpacks-number, packs-all-of, unpacks-all-of, unpacked-of, check-done, whole-alone, filler-needs, filler-has}
+use Rattle.blocks.proofs.Round.{block-count, block-whole, block-words, written-block}
+use Rattle.blocks.specs.Inside.{Sized}
+
+-- ---- the blocks worked by hand
+
+-- Every case marked P comes out as it was worked by hand.
+pub worked-by-hand : map made cases ≡ map worked cases
+unfolding block body residualBytes codedWord chosen codedBy written lowThree dfcmChosen fcmResidual dfcmResidual learn nextFcmHash nextDfcmHash stride fcmPrediction dfcmPrediction cleared checked blockNumber fillerStands lastHalf countedCodes check firstFailure left add64 sub64 shiftedLeft shiftedRight lowBits xor zeroBytes leadingZeros
+worked-by-hand = refl
+
+-- ---- no second answer
+
+-- Of pack's answer, of both tables and of the output, refused or not, the promise admits one value each.
+pub pack-one-answer : {words fcm dfcm out f₁ d₁ o₁ f₂ d₂ o₂ : List ℕ} {r₁ r₂ : Packed}
+    → Packs words fcm dfcm out r₁ f₁ d₁ o₁ → Packs words fcm dfcm out r₂ f₂ d₂ o₂ → (r₁ ≡ r₂) × (f₁ ≡ f₂) × (d₁ ≡ d₂) × (o₁ ≡ o₂)
+pack-one-answer p q = (
+  p .answer ∙ sym (q .answer),
+  p .fcmLeft ∙ sym (q .fcmLeft),
+  p .dfcmLeft ∙ sym (q .dfcmLeft),
+  p .outLeft ∙ sym (q .outLeft),
+)
+
+-- Of check's answer, the promise admits one value.
+pub check-one-answer : (b : List ℕ) {r₁ r₂ : Checked} → r₁ ≡ checked b → r₂ ≡ checked b → r₁ ≡ r₂
+check-one-answer b p q = p ∙ sym q
+
+-- Of unpack's answer, of both tables and of the words, refused or not, the promise admits one value each.
+pub unpack-one-answer : {b fcm dfcm words f₁ d₁ w₁ f₂ d₂ w₂ : List ℕ} {r₁ r₂ : Unpacked}
+    → Unpacks b fcm dfcm words r₁ f₁ d₁ w₁ → Unpacks b fcm dfcm words r₂ f₂ d₂ w₂ → (r₁ ≡ r₂) × (f₁ ≡ f₂) × (d₁ ≡ d₂) × (w₁ ≡ w₂)
+unpack-one-answer p q = (
+  p .answer ∙ sym (q .answer),
+  p .fcmLeft ∙ sym (q .fcmLeft),
+  p .dfcmLeft ∙ sym (q .dfcmLeft),
+  p .wordsLeft ∙ sym (q .wordsLeft),
+)
+
+-- ---- when each call answers 0
+
+-- both tables have 2 ^ t words, with t from 0 to 16
+pub record Tables (fcm dfcm : List ℕ) : Type 0 where
+  pub t : ℕ
+  pub most : t ≤ 16
+  pub fcmLong : length fcm ≡ 2 ^ t
+  pub dfcmLong : length dfcm ≡ 2 ^ t
+
+tables-of : (fcm dfcm : List ℕ) → Sized (length fcm) (length dfcm) → Tables fcm dfcm
+tables-of fcm dfcm s = record { t = _; most = s .small; fcmLong = s .power; dfcmLong = s .same ∙ s .power }
+
+of-tables : (fcm dfcm : List ℕ) → Tables fcm dfcm → Sized (length fcm) (length dfcm)
+of-tables fcm dfcm k = sized-power (k .t) _ _ (k .most) (k .fcmLong) (k .dfcmLong ∙ sym (k .fcmLong))
+
+-- what pack needs: tables, at most 65,536 words, room for the worst block
+pub record PackTakes (words fcm dfcm out : List ℕ) : Type 0 where
+  pub tables : Tables fcm dfcm
+  pub few : length words ≤ 65536
+  pub room : worst (length words) ≤ length out
+
+-- what check needs: the two fields, a count in range, the length stated and kept, and the filler
+pub record CheckTakes (b : List ℕ) : Type 0 where
+  pub long : 8 ≤ length b
+  pub few : count b ≤ 65536
+  pub stated : statedLength b ≡ length b
+  pub kept : length b ≡ residualsAt (count b) + cost (countedCodes b)
+  pub filler : count b % 2 ≡ 1 → lastHalf b ≡ 7
+
+-- what unpack needs: tables, a block that check takes, room for its words
+pub record UnpackTakes (b fcm dfcm words : List ℕ) : Type 0 where
+  pub tables : Tables fcm dfcm
+  pub whole : CheckTakes b
+  pub room : count b ≤ length words
+
+-- Pack answers 0 just where it has what it needs, so a packer that refuses more is shut out.
+pub pack-accepts : {words fcm dfcm out f' d' out' : List ℕ} {r : Packed} → Packs words fcm dfcm out r f' d' out' → (r .number ≡ 0) ↔ PackTakes words fcm dfcm out
+pack-accepts p = (
+  (λ e. let k = packable _ _ _ _ (sym (packs-number p) ∙ e) in record { tables = tables-of _ _ (k .sized); few = k .few; room = k .room }),
+  (λ k. packs-number p ∙ packable-packs _ _ _ _ (record { sized = of-tables _ _ (k .tables); few = k .few; room = k .room })),
+)
+
+-- Check answers 0 just where it has what it needs.
+pub check-accepts : (b : List ℕ) → (checked b .number ≡ 0) ↔ CheckTakes b
+check-accepts b = (
+  (λ e. let w = whole b (sym (checks-number b) ∙ e) in record { long = w .long; few = w .few; stated = w .stated; kept = w .adds; filler = filler-needs b (w .filler) }),
+  (λ k. checks-number b ∙ whole-checks b (record { long = k .long; few = k .few; stated = k .stated; adds = k .kept; filler = filler-has b (k .filler) })),
+)
+
+-- Unpack answers 0 just where it has what it needs.
+pub unpack-accepts : {b fcm dfcm words f' d' w' : List ℕ} {r : Unpacked} → Unpacks b fcm dfcm words r f' d' w' → (r .number ≡ 0) ↔ UnpackTakes b fcm dfcm words
+unpack-accepts {b} p = (
+  (λ e. let k = unpackable _ _ _ _ (sym (unpacks-number p) ∙ e) in record { tables = tables-of _ _ (k .sized); whole = check-accepts b .0 (checks-number b ∙ k .whole); room = k .room }),
+  (λ k. unpacks-number p ∙ unpackable-unpacks _ _ _ _ (record { sized = of-tables _ _ (k .tables); whole = sym (checks-number b) ∙ check-accepts b .1 (k .whole); room = k .room })),
+)
+
+-- ---- what the tables held before plays no part
+
+-- Two accepted runs of pack that differ in the tables' old content answer the same, write the same and leave equal tables.
+pub pack-forgets : {words f₁ d₁ f₂ d₂ out f₁' d₁' f₂' d₂' o₁ o₂ : List ℕ} {r₁ r₂ : Packed}
+    → Packs words f₁ d₁ out r₁ f₁' d₁' o₁ → Packs words f₂ d₂ out r₂ f₂' d₂' o₂ → length f₁ ≡ length f₂ → length d₁ ≡ length d₂ → r₁ .number ≡ 0
+    → (r₁ ≡ r₂) × (f₁' ≡ f₂') × (d₁' ≡ d₂') × (o₁ ≡ o₂)
+pack-forgets p q e g z =
+    let y = packs-number q ∙ sym (rw (e, g) at (packs-number p)) ∙ z in
+    let a = packs-all-of p z in
+    let b = packs-all-of q y in (
+      cc (e),
+      (rw e at (a .fcm)) ∙ sym (b .fcm),
+      (rw e at (a .dfcm)) ∙ sym (b .dfcm),
+      (rw e at (a .out)) ∙ sym (b .out),
+    )
+
+-- Two accepted runs of unpack that differ in the tables' old content answer the same, write the same and leave equal tables.
+pub unpack-forgets : {b f₁ d₁ f₂ d₂ words f₁' d₁' f₂' d₂' w₁ w₂ : List ℕ} {r₁ r₂ : Unpacked}
+    → Unpacks b f₁ d₁ words r₁ f₁' d₁' w₁ → Unpacks b f₂ d₂ words r₂ f₂' d₂' w₂ → length f₁ ≡ length f₂ → length d₁ ≡ length d₂ → r₁ .number ≡ 0
+    → (r₁ ≡ r₂) × (f₁' ≡ f₂') × (d₁' ≡ d₂') × (w₁ ≡ w₂)
+unpack-forgets p q e g z =
+    let y = unpacks-number q ∙ sym (rw (e, g) at (unpacks-number p)) ∙ z in
+    let a = unpacks-all-of p z in
+    let c = unpacks-all-of q y in (
+      cc (e),
+      (rw e at (a .fcm)) ∙ sym (c .fcm),
+      (rw e at (a .dfcm)) ∙ sym (c .dfcm),
+      (rw e at (a .words)) ∙ sym (c .words),
+    )
+
+-- ---- there and back
+
+-- the block that an accepted pack wrote: the output's first bytes, as many as it answered
+abbrev pub writtenBlock : Packed → List ℕ → List ℕ
+writtenBlock r out' = take (r .length) out'
+
+-- Every block that pack writes is accepted by check, with the count of the words.
+pub packed-checks : {words fcm dfcm out f' d' out' : List ℕ} {r : Packed} → Packs words fcm dfcm out r f' d' out' → r .number ≡ 0
+    → checked (writtenBlock r out') ≡ record { number = 0; count = length words }
+packed-checks p e =
+    let w = packs-all-of p e in
+    let few = packable _ _ _ _ (sym (packs-number p) ∙ e) .few in
+    rw (written-block w) (sym (check-done _ _ (block-whole _ _ few) (sym (block-count _ _ few))))
+
+-- Unpacking what pack wrote, with tables of the same size whatever they hold, gives each word back bit for bit and leaves the packer's tables.
+pub round-trip : {words fcm dfcm out f' d' out' f₂ d₂ room f₂' d₂' room' : List ℕ} {r : Packed} {s : Unpacked}
+    → Words words → Packs words fcm dfcm out r f' d' out' → r .number ≡ 0
+    → Unpacks (writtenBlock r out') f₂ d₂ room s f₂' d₂' room' → length f₂ ≡ length fcm → length d₂ ≡ length dfcm → length words ≤ length room
+    → (s ≡ record { number = 0; count = length words }) × (room' ≡ over words room) × (f₂' ≡ f') × (d₂' ≡ d')
+round-trip {words} {fcm} h p e q lf ld l =
+    let t = tOf (length fcm) in
+    let w = packs-all-of p e in
+    let k = packable _ _ _ _ (sym (packs-number p) ∙ e) in
+    let back = block-words t words (k .few) h in
+    let n = block-count t words (k .few) in
+    let u = rw (written-block w) at q in
+    let z = unpacks-number u ∙ unpackable-unpacks _ _ _ _ (record { sized = rw (lf, ld) (k .sized); whole = block-whole t words (k .few); room = rw n l }) in
+    let g = rw lf at (unpacks-all-of u z) in (
+      unpacked-of _ _ _ z (g .count ∙ n),
+      g .words ∙ rw back,
+      g .fcm ∙ rw back (sym (w .fcm)),
+      g .dfcm ∙ rw back (sym (w .dfcm)),
+    )
+
+-- ---- nothing cut short, nothing added
+
+-- No proper first part of an accepted block is accepted.
+pub no-first-part : (b : List ℕ) (k : ℕ) → checked b .number ≡ 0 → k < length b → checked (take k b) .number ≡ 0 → ⊥
+no-first-part b k e h f =
+    let z = whole-alone (take k b) (drop k b) (sym (checks-number (take k b)) ∙ f) (rw (take-append-drop k b) (sym (checks-number b) ∙ e)) in
+    omega (arith, length-drop k b)
+
+-- No accepted block with bytes added is accepted.
+pub nothing-added : (b c : List ℕ) → checked b .number ≡ 0 → checked (b ++ c) .number ≡ 0 → 0 < length c → ⊥
+nothing-added b c e f h = omega (arith, whole-alone b c (sym (checks-number b) ∙ e) (sym (checks-number (b ++ c)) ∙ f))

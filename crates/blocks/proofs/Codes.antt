@@ -1,0 +1,133 @@
+-- The code of a word: the table, the choice, what is written. Nothing else opens these definitions.
+use mathlib.Core.Path.{_≡_, refl, sym, ap, _∙_, subst}
+use mathlib.Core.Bool.{Bool, true, false, cond}
+use mathlib.Core.List.{List, [], _∷_}
+use Prim.Native.Nat.{ℕ, zero, suc, _+_, _-_, _%_, _^_, max, _≤_, _<_}
+use native.Mathlib.Omega.{arith}
+use native.Mathlib.Nat.{lt-of-lt-of-le, zero-add}
+use lib.Dec.{ltb}
+use lib.ListN.{getD}
+use borrow.Author.Tests.{ltb-true, ltb-false, lt-ltb, le-ltb}
+use Rattle.words.specs.Words.{zeroBytes}
+use Rattle.words.proofs.Tests.{either}
+use Rattle.words.proofs.Zeros.{zeros-at-most, zeros-within, zeros-of-fit, pow-256-le}
+use Rattle.blocks.specs.Predictors.{Memory}
+use Rattle.blocks.specs.Codes.{dfcmChosen, lowThree, written, codedBy, chosen, codedWord, fcmResidual, dfcmResidual}
+use Rattle.blocks.specs.declared.Coded.{Coded}
+
+-- ---- the table
+
+pub low-three-below : (z : ℕ) → z < 4 → z ≡ lowThree z
+unfolding lowThree
+low-three-below zero h = refl
+low-three-below (suc zero) h = refl
+low-three-below (suc (suc zero)) h = refl
+low-three-below (suc (suc (suc zero))) h = refl
+low-three-below (suc (suc (suc (suc z)))) h = absurd (omega arith)
+
+pub low-three-above : (z : ℕ) → 4 ≤ z → z ≤ 8 → z - 1 ≡ lowThree z
+unfolding lowThree
+low-three-above z h l = above (z - 4) z (omega arith) (omega arith)
+  where
+    above : (k z : ℕ) → k ≤ 4 → z ≡ 4 + k → z - 1 ≡ getD (0 ∷ 1 ∷ 2 ∷ 3 ∷ 3 ∷ 4 ∷ 5 ∷ 6 ∷ 7 ∷ []) z 0
+    above zero z h e = rw e
+    above (suc zero) z h e = rw e
+    above (suc (suc zero)) z h e = rw e
+    above (suc (suc (suc zero))) z h e = rw e
+    above (suc (suc (suc (suc zero)))) z h e = rw e
+    above (suc (suc (suc (suc (suc k))))) z h e = absurd (omega arith)
+
+pub low-three-small : (z : ℕ) → z ≤ 8 → lowThree z ≤ 7
+low-three-small z h =
+    either (ltb z 4) (λ e. omega (arith, ltb-true z 4 e, low-three-below z (ltb-true z 4 e)))
+    (λ e. omega (arith, low-three-above z (ltb-false z 4 e) h))
+
+pub written-below : (c : ℕ) → c % 8 < 4 → 8 - c % 8 ≡ written c
+unfolding written
+written-below c h = below (c % 8) h
+  where
+    below : (l : ℕ) → l < 4 → 8 - l ≡ getD (8 ∷ 7 ∷ 6 ∷ 5 ∷ 3 ∷ 2 ∷ 1 ∷ 0 ∷ []) l 0
+    below zero h = refl
+    below (suc zero) h = refl
+    below (suc (suc zero)) h = refl
+    below (suc (suc (suc zero))) h = refl
+    below (suc (suc (suc (suc l)))) h = absurd (omega arith)
+
+pub written-above : (c : ℕ) → 4 ≤ c % 8 → 7 - c % 8 ≡ written c
+unfolding written
+written-above c h = above (c % 8 - 4) (c % 8) (omega arith) (omega arith)
+  where
+    above : (k l : ℕ) → k ≤ 3 → l ≡ 4 + k → 7 - l ≡ getD (8 ∷ 7 ∷ 6 ∷ 5 ∷ 3 ∷ 2 ∷ 1 ∷ 0 ∷ []) l 0
+    above zero l h e = rw e
+    above (suc zero) l h e = rw e
+    above (suc (suc zero)) l h e = rw e
+    above (suc (suc (suc zero))) l h e = rw e
+    above (suc (suc (suc (suc k)))) l h e = absurd (omega arith)
+
+pub written-small : (c : ℕ) → written c ≤ 8
+written-small c =
+    either (ltb (c % 8) 4) (λ e. omega (arith, written-below c (ltb-true _ 4 e))) (λ e. omega (arith, written-above c (ltb-false _ 4 e)))
+
+-- ---- a residual with its code
+
+pub top-bit-costs-nothing : (c : ℕ) → written (8 + c) ≡ written c
+unfolding written
+top-bit-costs-nothing c =
+    let e : (8 + c) % 8 ≡ c % 8 = omega arith in
+    rw e
+
+top-small : (b : Bool) → cond b 8 0 ≤ 8
+top-small true = omega arith
+top-small false = omega arith
+
+-- a code has four bits
+pub code-small : (b : Bool) (r : ℕ) → codedBy b r .code ≤ 15
+unfolding codedBy
+code-small b r = omega (arith, low-three-small (zeroBytes r) (zeros-at-most r), top-small b)
+
+pub coded-fits : (b : Bool) (r z l t : ℕ) → t ≡ cond b 8 0 → z ≡ zeroBytes r → l ≡ lowThree z → t + l ≤ 15
+unfolding codedBy
+coded-fits b r z l t e p q = omega (arith, code-small b r, ap lowThree p)
+
+pub coded-of : (b : Bool) (r z l t : ℕ) → t ≡ cond b 8 0 → z ≡ zeroBytes r → l ≡ lowThree z → record { code = t + l; residual = r } ≡ codedBy b r
+unfolding codedBy
+coded-of b r z l t e p q = cc
+
+pub chosen-of : (f d zf zd : ℕ) → zf ≡ zeroBytes f → zd ≡ zeroBytes d → ltb zf zd ≡ dfcmChosen f d
+unfolding dfcmChosen
+chosen-of f d zf zd p q = cc
+
+pub chosen-dfcm : (f d : ℕ) (r : Coded) → dfcmChosen f d ≡ true → r ≡ codedBy true d → r ≡ chosen f d
+unfolding chosen
+chosen-dfcm f d r e q = rw e q
+
+pub chosen-fcm : (f d : ℕ) (r : Coded) → dfcmChosen f d ≡ false → r ≡ codedBy false f → r ≡ chosen f d
+unfolding chosen
+chosen-fcm f d r e q = rw e q
+
+pub coded-small : (m : Memory) (v : ℕ) → codedWord m v .code ≤ 15
+unfolding codedWord chosen
+coded-small m v =
+    either (dfcmChosen (fcmResidual m v) (dfcmResidual m v)) (λ e. rw e (code-small true _)) (λ e. rw e (code-small false _))
+
+-- ---- what is written is enough
+
+written-of-zeros : (z : ℕ) → z ≤ 8 → 8 - z ≤ written (lowThree z)
+written-of-zeros z h =
+    either (ltb z 4)
+    (λ e.
+    let b = ltb-true z 4 e in
+    let l = low-three-below z b in
+    omega (arith, written-below (lowThree z) (omega arith)))
+    (λ e.
+    let a = ltb-false z 4 e in
+    let l = low-three-above z a h in
+    either (ltb (lowThree z) 4)
+    (λ f. omega (arith, ltb-true (lowThree z) 4 f, written-below (lowThree z) (omega (arith, ltb-true (lowThree z) 4 f))))
+    (λ f. omega (arith, written-above (lowThree z) (omega (arith, ltb-false (lowThree z) 4 f)))))
+
+-- a residual fits the bytes that its code writes
+pub coded-by-fits : (b : Bool) (r : ℕ) → r < 2 ^ 64 → codedBy b r .residual < 256 ^ written (codedBy b r .code)
+unfolding codedBy
+coded-by-fits true r h = rw top-bit-costs-nothing (lt-of-lt-of-le (zeros-within r h) (pow-256-le (written-of-zeros _ (zeros-at-most r))))
+coded-by-fits false r h = rw zero-add (lt-of-lt-of-le (zeros-within r h) (pow-256-le (written-of-zeros _ (zeros-at-most r))))

@@ -1,0 +1,117 @@
+-- The loop that reads words: what holds at its head, where it starts, after a turn and at its end.
+use mathlib.Core.Path.{_≡_, refl, sym, ap, _∙_}
+use mathlib.Core.List.{List, [], _∷_}
+use Prim.Native.Nat.{ℕ, _+_, _≤_, _<_}
+use native.Mathlib.Omega.{arith}
+use native.Mathlib.Numerals.{add-one}
+use lib.ListN.{length, getD, set, drop, replicate, length-set}
+use lib.Seq.{sets, drop-drop}
+use Rattle.words.specs.Bytes.{field}
+use Rattle.blocks.specs.Predictors.{Memory, cleared, learn, after}
+use Rattle.blocks.specs.Codes.{written, decodedWord, decodedWords}
+use Rattle.blocks.specs.Block.{count, halves, countedCodes, cost, withResiduals, residualsAt, wordsIn}
+use Rattle.blocks.specs.Numbers.{tOf}
+use Rattle.blocks.specs.Inside.{memory, Ready, Decodes, Counted, Getting, Gets, Unpackable, UnpacksAll}
+use Rattle.blocks.specs.declared.Coded.{Coded}
+use Rattle.blocks.specs.declared.predict.Carry.{Carry}
+use Rattle.blocks.specs.declared.reading.Back.{Back}
+use Rattle.blocks.proofs.Checks.{sets-over}
+use Rattle.blocks.proofs.Learn.{start, cleared-is, cleared-of, ready-start, ready-learn}
+use Rattle.blocks.proofs.Get.{counted-next, counted-none, length-counted, length-with, length-decoded}
+use Rattle.blocks.proofs.Accept.{Whole, whole, counted}
+
+-- the codes and residuals from code i and the byte at a place on
+abbrev pub rest : List ℕ → ℕ → ℕ → List Coded
+rest b i at = withResiduals (drop i (countedCodes b)) (drop at b)
+
+-- Finishing from here, over the codes from i on, leaves what the whole run leaves.
+pub record Going (b : List ℕ) (n : ℕ) (f₀ d₀ words₀ f d words : List ℕ) (at : ℕ) (c : Carry) (i : ℕ) : Type 0 where
+  pub upto : i ≤ n
+  pub fcmLong : length f ≡ length f₀
+  pub dfcmLong : length d ≡ length d₀
+  pub wordsLong : length words ≡ length words₀
+  pub ready : Ready f d c
+  pub bytes : at + cost (drop i (countedCodes b)) ≡ length b
+  pub state :
+      after (tOf (length f₀)) (memory f d c) (decodedWords (tOf (length f₀)) (memory f d c) (rest b i at))
+      ≡ after (tOf (length f₀)) (cleared (tOf (length f₀))) (wordsIn (tOf (length f₀)) b)
+  pub all : sets words i (decodedWords (tOf (length f₀)) (memory f d c) (rest b i at)) ≡ sets words₀ 0 (wordsIn (tOf (length f₀)) b)
+
+pub going-starts : (b : List ℕ) (n : ℕ) (f d words : List ℕ) → Getting b n f d words → Going b n f d words f d words (residualsAt n) start 0
+unfolding wordsIn
+going-starts b n f d words p =
+    let e = cleared-is f d (p .cleared) in
+    let t = tOf (length f) in
+    let w = whole b (p .whole) in
+    record {
+      upto = omega arith;
+      fcmLong = refl;
+      dfcmLong = refl;
+      wordsLong = refl;
+      ready = ready-start f d (p .cleared);
+      bytes = rw (p .count) (sym (w .adds));
+      state = rw (p .count, e);
+      all = rw (p .count, e);
+    }
+
+module _ (b : List ℕ) (n : ℕ) (f₀ d₀ words₀ f d words : List ℕ) (at : ℕ) (c : Carry) (i : ℕ) (g : Going b n f₀ d₀ words₀ f d words at c i)
+    (p : Getting b n f₀ d₀ words₀) where
+  -- the residual bytes of the next code are there
+  pub going-room : (code k : ℕ) → i < n → code ≡ getD (halves (drop 8 b)) i 0 → k ≡ written code → at + k ≤ length b
+  going-room code k h e q =
+      omega (arith, rw (counted-next b n i (counted b n (p .whole) (p .count)) h) at (g .bytes), ap written e)
+
+  pub going-on : (f' d' : List ℕ) (r : Back) (code k x : ℕ) → i < n
+      → code ≡ getD (halves (drop 8 b)) i 0 → k ≡ written code → x ≡ field k at b
+      → Decodes (tOf (length f)) (memory f d c) (record { code = code; residual = x }) f' d' r → length f' ≡ length f → length d' ≡ length d
+      → Going b n f₀ d₀ words₀ f' d' (set words i (r .word)) (at + k) (r .carry) (i + 1)
+  going-on f' d' r code k x h e q y s lf ld =
+      let t = tOf (length f₀) in
+      let m₀ = memory f d c in
+      let dc : drop i (countedCodes b) ≡ code ∷ drop (i + 1) (countedCodes b) = counted-next b n i (counted b n (p .whole) (p .count)) h ∙ rw e in
+      let w : Coded = record { code = code; residual = x } in
+      let z : rest b i at ≡ w ∷ rest b (i + 1) (at + k) = rw (dc, y, q, ← (drop-drop (written code) at b)) in
+      let m : memory f' d' (r .carry) ≡ learn t m₀ (decodedWord m₀ w) = s .learnt ∙ ap (λ (l : ℕ). learn (tOf l) m₀ (decodedWord m₀ w)) (g .fcmLong) in
+      record {
+        upto = omega arith;
+        fcmLong = lf ∙ g .fcmLong;
+        dfcmLong = ld ∙ g .dfcmLong;
+        wordsLong = length-set words i _ ∙ g .wordsLong;
+        ready = ready-learn f d f' d' c (r .carry) (decodedWord m₀ w) (g .ready) (s .learnt);
+        bytes = omega (arith, rw dc at (g .bytes));
+        state = rw m (rw z at (g .state));
+        all = rw (m, s .word, add-one i) (rw (z, add-one i) at (g .all));
+      }
+
+  pub going-ends : n ≤ i → Gets (tOf (length f₀)) b words₀ f d words
+  going-ends h =
+      let t = tOf (length f₀) in
+      let e : rest b i at ≡ [] = rw (counted-none b n i (counted b n (p .whole) (p .count)) h) in
+      let m : memory f d c ≡ after t (cleared t) (wordsIn t b) = rw e at (g .state) in
+      record { fcm = ap (λ (x : Memory). x .fcm) m; dfcm = ap (λ (x : Memory). x .dfcm) m; words = rw e at (g .all) }
+
+-- ---- around the loop: the tables cleared before it
+
+pub getting-of : (b : List ℕ) (n : ℕ) (f d words f₁ d₁ : List ℕ) → Unpackable b (length f) (length d) (length words) → n ≡ count b
+    → f₁ ≡ replicate (length f) 0 → d₁ ≡ replicate (length d) 0 → Getting b n f₁ d₁ words
+getting-of b n f d words f₁ d₁ p c e q =
+    record { cleared = cleared-of f d f₁ d₁ (p .sized) e q; whole = p .whole; count = c; room = rw c (p .room) }
+
+-- what a block reads as has as many words as it counts
+pub length-words : (t : ℕ) (b : List ℕ) (n : ℕ) → Counted b n → length (wordsIn t b) ≡ n
+unfolding wordsIn
+length-words t b n c =
+    let bs = drop (residualsAt (count b)) b in
+    length-decoded t (cleared t) (withResiduals (countedCodes b) bs) ∙ length-with (countedCodes b) bs ∙ length-counted b n c
+
+pub unpacks-all : (b : List ℕ) (n : ℕ) (f d words f₁ f' d' words' : List ℕ) → Unpackable b (length f) (length d) (length words) → n ≡ count b → length f₁ ≡ length f
+    → Gets (tOf (length f₁)) b words f' d' words' → UnpacksAll (tOf (length f)) b words f' d' words' n
+unpacks-all b n f d words f₁ f' d' words' p c e g =
+    let t = tOf (length f) in
+    let l : length (wordsIn t b) ≤ length words = omega (arith, length-words t b n (counted b n (p .whole) c), p .room) in
+    record {
+      count = c;
+      fcm = rw e at (g .fcm);
+      dfcm = rw e at (g .dfcm);
+      words = (rw e at (g .words)) ∙ sets-over (wordsIn t b) words l;
+    }

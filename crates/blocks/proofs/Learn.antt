@@ -1,0 +1,99 @@
+-- What the code of the predictors computes is what the definitions say.
+use mathlib.Core.Path.{_≡_, refl, sym, ap, _∙_}
+use mathlib.Core.List.{List}
+use Prim.Native.Nat.{ℕ, _+_, _-_, _*_, _%_, _^_, _≤_, _<_}
+use native.Mathlib.Omega.{arith}
+use native.Mathlib.Nat.{mod-lt}
+use lib.Bits.{bitAnd, bitXor, and-mask}
+use lib.Dec.{ltb}
+use lib.ListN.{length, getD, set, replicate, length-set, length-replicate}
+use lib.Pow.{pow-mono, pow-pos, shl-exact}
+use borrow.Author.Tests.{lt-ltb, le-ltb}
+use Rattle.words.specs.Words.{add64, sub64, shiftedLeft, lowBits, xor}
+use Rattle.blocks.specs.Predictors.{Memory, cleared, fcmPrediction, dfcmPrediction, stride, nextFcmHash, nextDfcmHash, learn}
+use Rattle.blocks.specs.Codes.{fcmResidual, dfcmResidual, chosen, codedWord, namedPrediction, decodedWord}
+use Rattle.blocks.specs.Numbers.{tOf}
+use Rattle.blocks.specs.Inside.{memory, Sized, Ready, Masked, Codes, Decodes, Cleared}
+use Rattle.blocks.specs.declared.Coded.{Coded}
+use Rattle.blocks.specs.declared.predict.Carry.{Carry}
+use Rattle.blocks.proofs.Tables.{sized-some}
+
+-- ---- hashes
+
+pub masked : (f d h : ℕ) → Sized f d → h < f → Masked (f - 1) h
+masked f d h s l =
+    let e : f - 1 + 1 ≡ f = omega arith in
+    record { small = rw e (s .small); power = rw e (s .power); below = omega arith }
+
+-- shifted by a, with w, under the mask
+pub hashed : (a mask h w : ℕ) → a ≤ 6 → Masked mask h → bitAnd (bitXor ((h * 2 ^ a) % 2 ^ 64) w) mask ≡ lowBits (tOf (mask + 1)) (xor (shiftedLeft a h) w)
+unfolding lowBits xor shiftedLeft
+hashed a mask h w l s =
+    let t = tOf (mask + 1) in
+    let b : h < 2 ^ 16 = omega (arith, s .power, s .below, pow-mono {i = t} {j = 16} (s .small)) in
+    let e : mask ≡ 2 ^ t - 1 = omega (arith, s .power) in
+    ap (λ (k : ℕ). bitAnd (bitXor ((h * 2 ^ a) % 2 ^ 64) w) k) e
+    ∙ and-mask _ t
+    ∙ ap (λ (k : ℕ). bitXor k w % 2 ^ t) (shl-exact 16 a 64 b (omega arith))
+
+-- ---- a word learnt, coded, decoded
+
+pub learnt-of : (f d : List ℕ) (c : Carry) (v mask s hf hd : ℕ)
+    → mask + 1 ≡ length f → s ≡ sub64 v (c .last) → hf ≡ nextFcmHash (tOf (mask + 1)) (c .fcm) v → hd ≡ nextDfcmHash (tOf (mask + 1)) (c .dfcm) s
+    → memory (set f (c .fcm) v) (set d (c .dfcm) s) (record { fcm = hf; dfcm = hd; last = v }) ≡ learn (tOf (length f)) (memory f d c) v
+unfolding learn stride
+learnt-of f d c v mask s hf hd e p q r = cc
+
+pub coded-word : (t : ℕ) (f d f' d' : List ℕ) (c c' : Carry) (v xf p xd : ℕ) (w : Coded)
+    → xf ≡ xor v (getD f (c .fcm) 0) → p ≡ add64 (getD d (c .dfcm) 0) (c .last) → xd ≡ xor v p → w ≡ chosen xf xd → memory f' d' c' ≡ learn t (memory f d c) v
+    → Codes t (memory f d c) v f' d' (record { carry = c'; coded = w })
+unfolding codedWord fcmResidual dfcmResidual fcmPrediction dfcmPrediction
+coded-word t f d f' d' c c' v xf p xd w e1 e2 e3 e4 e5 = record { coded = cc; learnt = e5 }
+
+pub named-fcm : (m : Memory) (c p : ℕ) → c < 8 → p ≡ getD (m .fcm) (m .fcmHash) 0 → p ≡ namedPrediction m c
+unfolding namedPrediction fcmPrediction
+named-fcm m c p h e = rw (lt-ltb c 8 h) e
+
+pub named-dfcm : (m : Memory) (c p : ℕ) → 8 ≤ c → p ≡ add64 (getD (m .dfcm) (m .dfcmHash) 0) (m .last) → p ≡ namedPrediction m c
+unfolding namedPrediction dfcmPrediction
+named-dfcm m c p h e = rw (le-ltb c 8 h) e
+
+pub decoded-word : (t : ℕ) (m : Memory) (f' d' : List ℕ) (c' : Carry) (w : Coded) (p v : ℕ)
+    → p ≡ namedPrediction m (w .code) → v ≡ xor (w .residual) p → memory f' d' c' ≡ learn t m v
+    → Decodes t m w f' d' (record { carry = c'; word = v })
+unfolding decodedWord
+decoded-word t m f' d' c' w p v e1 e2 e3 = record { word = cc; learnt = cc }
+
+-- ---- tables of one size stay so, and hashes within them
+
+pub ready-learn : (f d f' d' : List ℕ) (c c' : Carry) (v : ℕ) → Ready f d c → memory f' d' c' ≡ learn (tOf (length f)) (memory f d c) v → Ready f' d' c'
+unfolding learn nextFcmHash nextDfcmHash lowBits
+ready-learn f d f' d' c c' v r e =
+    let t = tOf (length f) in
+    let s = r .sized in
+    let lf : length f' ≡ length f = ap (λ (m : Memory). length (m .fcm)) e ∙ length-set f (c .fcm) v in
+    let ld : length d' ≡ length d = ap (λ (m : Memory). length (m .dfcm)) e ∙ length-set d (c .dfcm) _ in
+    record {
+      sized = rw (lf, ld) s;
+      fcm = rw (lf, s .power) (rw (ap (λ (m : Memory). m .fcmHash) e) (mod-lt _ (pow-pos t)));
+      dfcm = rw (lf, s .power) (rw (ap (λ (m : Memory). m .dfcmHash) e) (mod-lt _ (pow-pos t)));
+    }
+
+-- the carry before the first word
+abbrev pub start : Carry
+start = record { fcm = 0; dfcm = 0; last = 0 }
+
+pub cleared-is : (f d : List ℕ) → Cleared f d → memory f d start ≡ cleared (tOf (length f))
+unfolding cleared
+cleared-is f d z = rw (← (z .sized .power)) (cc (z .fcm, z .dfcm))
+
+pub ready-start : (f d : List ℕ) → Cleared f d → Ready f d start
+ready-start f d z =
+    let p : 0 < length f = sized-some _ _ (z .sized) in
+    record { sized = z .sized; fcm = p; dfcm = p }
+
+pub cleared-of : (f d f' d' : List ℕ) → Sized (length f) (length d) → f' ≡ replicate (length f) 0 → d' ≡ replicate (length d) 0 → Cleared f' d'
+cleared-of f d f' d' s p q =
+    let lf : length f' ≡ length f = ap length p ∙ length-replicate (length f) 0 in
+    let ld : length d' ≡ length d = ap length q ∙ length-replicate (length d) 0 in
+    record { sized = rw (lf, ld) s; fcm = rw lf p; dfcm = rw lf (q ∙ ap (λ (k : ℕ). replicate k 0) (s .same)) }

@@ -1,0 +1,11 @@
+pub mod Checks
+pub mod Tables
+pub mod Codes
+pub mod Learn
+pub mod Put
+pub mod PutLoop
+pub mod Accept
+pub mod Get
+pub mod GetLoop
+pub mod Round
+pub mod Claims

@@ -1,0 +1,76 @@
+-- The numbers answered: checks in order, where the first failure answers; what a refusal leaves.
+use Prim.Native.Nat.{ℕ, zero, suc, _^_, _%_, _+_}
+use mathlib.Core.List.{List, [], _∷_, _++_}
+use mathlib.Core.Bool.{Bool, true, cond, _&&_}
+use lib.Count.{trailingZeros}
+use lib.Dec.{leb, eqb}
+use lib.ListN.{length, drop}
+use Rattle.blocks.specs.Block.{count, statedLength, residualsAt, countedCodes, lastHalf, cost, worst}
+
+-- a check: 0 where the test holds, its number where it fails
+unfoldable pub check : Bool → ℕ → ℕ
+check test k = cond test 0 k
+
+-- the first failure answers: the first number of the list that isn't 0, or 0
+unfoldable pub firstFailure : List ℕ → ℕ
+firstFailure [] = 0
+firstFailure (zero ∷ ks) = firstFailure ks
+firstFailure (suc k ∷ ks) = suc k
+
+-- what is left where the number k is answered: the new where k is 0, done; the old where k is a refusal
+unfoldable pub left {ℓ} : {A : Type ℓ} → ℕ → A → A → A
+left zero new old = new
+left (suc k) new old = old
+
+-- a lent output after success: its result first and its old content beyond
+abbrev pub over : List ℕ → List ℕ → List ℕ
+over result old = result ++ drop (length result) old
+
+-- the t of a table of n words, where n is 2 ^ t: the zero bits below n's lowest set bit
+unfoldable pub tOf : ℕ → ℕ
+tOf n = trailingZeros 64 n
+
+-- a power of two from 1 to 65,536: 2 ^ t, with t from 0 to 16
+unfoldable pub isTableLength : ℕ → Bool
+isTableLength n = leb (tOf n) 16 && eqb n (2 ^ tOf n)
+
+-- tables of f and d words
+unfoldable pub tablesNumber : ℕ → ℕ → ℕ
+tablesNumber f d =
+    firstFailure
+    (check (eqb f d) 1
+    ∷ check (isTableLength f) 1
+    ∷ [])
+
+-- pack n words, with tables of f and d words, into room for some bytes
+unfoldable pub packNumber : ℕ → ℕ → ℕ → ℕ → ℕ
+packNumber n f d room =
+    firstFailure
+    (tablesNumber f d
+    ∷ check (leb n 65536) 2
+    ∷ check (leb (worst n) room) 3
+    ∷ [])
+
+-- an odd count has 7 as the last low half
+unfoldable pub fillerStands : List ℕ → Bool
+fillerStands b = cond (eqb (count b % 2) 1) (eqb (lastHalf b) 7) true
+
+-- check the block b
+unfoldable pub blockNumber : List ℕ → ℕ
+blockNumber b =
+    firstFailure
+    (check (leb 8 (length b)) 4
+    ∷ check (leb (count b) 65536) 2
+    ∷ check (eqb (statedLength b) (length b)) 5
+    ∷ check (eqb (statedLength b) (residualsAt (count b) + cost (countedCodes b))) 5
+    ∷ check (fillerStands b) 6
+    ∷ [])
+
+-- unpack the block b, with tables of f and d words, into room for some words
+unfoldable pub unpackNumber : List ℕ → ℕ → ℕ → ℕ → ℕ
+unpackNumber b f d room =
+    firstFailure
+    (tablesNumber f d
+    ∷ blockNumber b
+    ∷ check (leb (count b) room) 3
+    ∷ [])

@@ -1,0 +1,198 @@
+// Checking a block and unpacking it.
+ghost use mathlib.Core.Path.{_≡_};
+ghost use Prim.Native.Nat.{_+_, _/_, _≤_, _<_};
+ghost use lib.ListN.{length, getD, drop};
+ghost use Rattle.blocks.specs.Block.{count, halves, countedCodes, residualsAt, cost};
+ghost use Rattle.blocks.specs.Codes.{namedPrediction};
+ghost use Rattle.blocks.specs.Numbers.{tOf, fillerStands, blockNumber, unpackNumber};
+ghost use Rattle.blocks.specs.Calls.{checked, Unpacks};
+ghost use Rattle.blocks.specs.Inside.{memory, Ready, Decodes, Counted, Getting, Gets, Unpackable, UnpacksAll};
+use crate::Checked;
+use crate::Coded;
+use crate::Unpacked;
+use crate::choice;
+use crate::numbers;
+use crate::predict;
+use crate::predict::Carry;
+
+// The word that a code and a residual give, and what the predictors carry on.
+pub struct Back {
+    pub carry: Carry,
+    pub word: u64,
+}
+
+// The word count that a block declares.
+pub fn count(block: &[u8]) -> usize
+    requires { ⌜ 8 ≤ length (now block) ⌝ }
+    ensures { λ r. ⌜ r ≡ count (now (block .entry)) ⌝ }
+{
+    words::get_bytes(block, 0, 4) as usize
+}
+
+// The i-th half of a block's code bytes.
+fn half(block: &[u8], i: usize) -> u8
+    requires { ⌜ 8 + i / 2 < length (now block) ⌝ }
+    ensures { λ r. ⌜ r ≡ getD (halves (drop 8 (now (block .entry)))) i 0 ⌝ }
+{
+    let at = 8 + i / 2;
+    let byte = block[at];
+    if i % 2 == 0 { byte / 16 } else { byte % 16 }
+}
+
+// How many residual bytes the counted codes have.
+fn residual_bytes(block: &[u8], codes: usize) -> usize
+    requires { ⌜ Counted (now block) codes ⌝ }
+    ensures { λ r. ⌜ r ≡ cost (countedCodes (now (block .entry))) ⌝ }
+{
+    let mut sum = 0;
+    let mut i = 0;
+    while i < codes {
+        sum += choice::written(half(block, i));
+        i += 1;
+    }
+    sum
+}
+
+// Whether an odd count has 7 as the last low half.
+fn filler_stands(block: &[u8], n: usize) -> bool
+    requires { ⌜ Counted (now block) n ⌝ }
+    ensures { λ r. ⌜ r ≡ fillerStands (now (block .entry)) ⌝ }
+{
+    if n % 2 == 1 {
+        half(block, n) == 7
+    } else {
+        true
+    }
+}
+
+// The number that check answers.
+pub fn block_number(block: &[u8]) -> u32
+    ensures { λ r. ⌜ r ≡ blockNumber (now (block .entry)) ⌝ }
+{
+    let length = block.len();
+    if length < 8 {
+        return 4;
+    }
+    let n = count(block);
+    if 65536 < n {
+        return 2;
+    }
+    if words::get_bytes(block, 4, 4) != length as u64 {
+        return 5;
+    }
+    let start = 8 + (n + 1) / 2;
+    if length < start {
+        return 5;
+    }
+    if length != start + residual_bytes(block, n) {
+        return 5;
+    }
+    if !filler_stands(block, n) {
+        return 6;
+    }
+    0
+}
+
+// Checks a block.
+pub fn check(block: &[u8]) -> Checked
+    ensures { λ r. ⌜ r ≡ checked (now (block .entry)) ⌝ }
+{
+    let number = block_number(block);
+    if number != 0 {
+        return Checked { number, count: 0 };
+    }
+    Checked {
+        number: 0,
+        count: count(block),
+    }
+}
+
+// The number that unpack answers.
+fn unpack_number(block: &[u8], fcm: usize, dfcm: usize, room: usize) -> u32
+    ensures { λ r. ⌜ r ≡ unpackNumber (now (block .entry)) fcm dfcm room ⌝ }
+{
+    let tables = numbers::tables_number(fcm, dfcm);
+    if tables != 0 {
+        return tables;
+    }
+    let number = block_number(block);
+    if number != 0 {
+        return number;
+    }
+    if room < count(block) {
+        return 3;
+    }
+    0
+}
+
+// The prediction that a code names.
+fn named_prediction(fcm: &[u64], dfcm: &[u64], carry: Carry, code: u8) -> u64
+    requires { ⌜ Ready (now fcm) (now dfcm) carry ⌝ }
+    ensures { λ r. ⌜ r ≡ namedPrediction (memory (now (fcm .entry)) (now (dfcm .entry)) carry) code ⌝ }
+{
+    let fcm_hash = carry.fcm;
+    let dfcm_hash = carry.dfcm;
+    if code < 8 {
+        return fcm[fcm_hash];
+    }
+    std::num::wrapping_add_u64(dfcm[dfcm_hash], carry.last)
+}
+
+// Decodes one word, and both predictors learn it.
+fn decode_word(fcm: &mut [u64], dfcm: &mut [u64], carry: Carry, coded: Coded) -> Back
+    requires { ⌜ Ready (now fcm) (now dfcm) carry ⌝ }
+    ensures { λ r. ⌜ Decodes (tOf (length (now (fcm .entry)))) (memory (now (fcm .entry)) (now (dfcm .entry)) carry) coded (now (fcm .exit)) (now (dfcm .exit)) r ⌝ }
+{
+    let word = coded.residual ^ named_prediction(fcm, dfcm, carry, coded.code);
+    let next = predict::learn(fcm, dfcm, carry, word);
+    Back { carry: next, word }
+}
+
+// Reads the codes and residuals of a block's n words and decodes them, the tables being cleared.
+fn get_words(block: &[u8], n: usize, fcm: &mut [u64], dfcm: &mut [u64], words: &mut [u64])
+    requires { ⌜ Getting (now block) n (now fcm) (now dfcm) (now words) ⌝ }
+    ensures { λ _. ⌜ Gets (tOf (length (now (fcm .entry)))) (now (block .entry)) (now (words .entry)) (now (fcm .exit)) (now (dfcm .exit)) (now (words .exit)) ⌝ }
+{
+    let mut at = 8 + (n + 1) / 2;
+    let mut carry = Carry {
+        fcm: 0,
+        dfcm: 0,
+        last: 0,
+    };
+    let mut i = 0;
+    while i < n {
+        let code = half(block, i);
+        let k = choice::written(code);
+        let residual = words::get_bytes(block, at, k);
+        let back = decode_word(fcm, dfcm, carry, Coded { code, residual });
+        words[i] = back.word;
+        at += k;
+        let next = back.carry;
+        carry = next;
+        i += 1;
+    }
+}
+
+// Unpacks a block that nothing refuses. Answers the word count.
+pub fn unpack_all(block: &[u8], fcm: &mut [u64], dfcm: &mut [u64], words: &mut [u64]) -> usize
+    requires { ⌜ Unpackable (now block) (length (now fcm)) (length (now dfcm)) (length (now words)) ⌝ }
+    ensures { λ r. ⌜ UnpacksAll (tOf (length (now (fcm .entry)))) (now (block .entry)) (now (words .entry)) (now (fcm .exit)) (now (dfcm .exit)) (now (words .exit)) r ⌝ }
+{
+    words::clear(fcm);
+    words::clear(dfcm);
+    let n = count(block);
+    get_words(block, n, fcm, dfcm, words);
+    n
+}
+
+// Unpacks a block into words, with both tables cleared first.
+pub fn unpack(block: &[u8], fcm: &mut [u64], dfcm: &mut [u64], words: &mut [u64]) -> Unpacked
+    ensures { λ r. ⌜ Unpacks (now (block .entry)) (now (fcm .entry)) (now (dfcm .entry)) (now (words .entry)) r (now (fcm .exit)) (now (dfcm .exit)) (now (words .exit)) ⌝ }
+{
+    let number = unpack_number(block, fcm.len(), dfcm.len(), words.len());
+    if number != 0 {
+        return Unpacked { number, count: 0 };
+    }
+    let count = unpack_all(block, fcm, dfcm, words);
+    Unpacked { number: 0, count }
+}

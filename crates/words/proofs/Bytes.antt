@@ -1,0 +1,63 @@
+-- Bytes low first, and the number that they make.
+use mathlib.Core.Path.{_≡_, refl, ap}
+use mathlib.Core.List.{List, [], _∷_}
+use Prim.Native.Nat.{ℕ, zero, suc, _+_, _-_, _*_, _/_, _%_, _^_, _≤_, _<_}
+use native.Mathlib.Omega.{arith}
+use native.Mathlib.Nat.{pow-suc, div-lt-iff-lt-mul}
+use lib.ListN.{length, getD, take, drop}
+use lib.Seq.{drop-cons}
+use Rattle.words.specs.Bytes.{lowBytes, number, field}
+use Rattle.words.proofs.Zeros.{pow-256-le}
+
+pub length-low : (k x : ℕ) → length (lowBytes k x) ≡ k
+length-low zero x = refl
+length-low (suc k) x = ap suc (length-low k (x / 256))
+
+-- a number that fits k bytes is read back from them
+pub number-low : (k x : ℕ) → x < 256 ^ k → number (lowBytes k x) ≡ x
+number-low zero x h = omega arith
+number-low (suc k) x h =
+    let l : x / 256 < 256 ^ k = div-lt-iff-lt-mul {k = 256} {x = x} {y = 256 ^ k} (omega arith) .1 (rw pow-suc at h) in
+    rw (number-low k (x / 256) l) (omega arith)
+
+-- k bytes make a number below 256 ^ k
+pub number-below : (k : ℕ) (bs : List ℕ) → ((i : ℕ) → getD bs i 0 < 256) → number (take k bs) < 256 ^ k
+number-below zero bs h = omega arith
+number-below (suc k) [] h = omega (arith, number-below k [] h, pow-suc 256 k)
+number-below (suc k) (b ∷ bs) h = rw pow-suc (omega (arith, number-below k bs (λ i. h (suc i)), h 0))
+
+-- ---- reading a field from its last byte down
+
+-- of the k bytes at a place, those from the j-th on are read as x
+pub record Reading (bs : List ℕ) (at k j x : ℕ) : Type 0 where
+  pub upto : j ≤ k
+  pub is : x ≡ field (k - j) (at + j) bs
+  pub small : x < 256 ^ (k - j)
+
+pub reading-none : (bs : List ℕ) (at k : ℕ) → Reading bs at k k 0
+reading-none bs at k =
+    let e : k - k ≡ 0 = omega arith in
+    record { upto = omega arith; is = rw e; small = rw e (omega arith) }
+
+pub reading-more : (bs : List ℕ) (at k j x b : ℕ) → at + k ≤ length bs → 0 < j → Reading bs at k j x → b ≡ getD bs (at + (j - 1)) 0 → b < 256
+    → Reading bs at k (j - 1) (x * 256 + b)
+reading-more bs at k j x b h p g e l =
+    let n : k - (j - 1) ≡ suc (k - j) = omega (arith, g .upto) in
+    let d : drop (at + (j - 1)) bs ≡ getD bs (at + (j - 1)) 0 ∷ drop (suc (at + (j - 1))) bs = drop-cons bs (at + (j - 1)) 0 (omega (arith, g .upto)) in
+    let f : suc (at + (j - 1)) ≡ at + j = omega arith in
+    record {
+      upto = omega (arith, g .upto);
+      is = rw (n, d, f, ← e, ← (g .is)) (omega arith);
+      small = rw (n, pow-suc) (omega (arith, g .small));
+    }
+
+pub reading-fits : (bs : List ℕ) (at k j x : ℕ) → k ≤ 8 → 0 < j → Reading bs at k j x → x < 2 ^ 56
+reading-fits bs at k j x h p g =
+    let s : k - j ≤ 7 = omega arith in
+    omega (arith, g .small, pow-256-le s)
+
+pub reading-all : (bs : List ℕ) (at k j x : ℕ) → j ≤ 0 → Reading bs at k j x → x ≡ field k at bs
+reading-all bs at k j x h g =
+    let e : k - j ≡ k = omega arith in
+    let f : at + j ≡ at = omega arith in
+    rw (e, f) at (g .is)

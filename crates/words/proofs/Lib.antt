@@ -1,0 +1,6 @@
+pub mod Tests
+pub mod Zeros
+pub mod Xor
+pub mod Bytes
+pub mod Stores
+pub mod Claims

@@ -1,0 +1,18 @@
+-- Bytes, the least significant first.
+use Prim.Native.Nat.{ℕ, zero, suc, _+_, _*_, _/_, _%_}
+use mathlib.Core.List.{List, [], _∷_}
+use lib.ListN.{take, drop}
+
+-- the k low bytes of x, low byte first
+abbrev pub lowBytes : ℕ → ℕ → List ℕ
+lowBytes zero x = []
+lowBytes (suc k) x = x % 256 ∷ lowBytes k (x / 256)
+
+-- the number that bytes make, low byte first
+abbrev pub number : List ℕ → ℕ
+number [] = 0
+number (b ∷ bs) = b + 256 * number bs
+
+-- the number in a field of k bytes that starts at a place
+abbrev pub field : ℕ → ℕ → List ℕ → ℕ
+field k at bs = number (take k (drop at bs))

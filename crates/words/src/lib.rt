@@ -1,0 +1,84 @@
+// Tools on 64-bit words and on bytes, for the crates above. A tool's `requires` is met by the crate
+// that calls it; the calls of the store itself, in `blocks`, have none.
+ghost use mathlib.Core.Path.{_≡_};
+ghost use Prim.Native.Nat.{_+_, _≤_, _<_};
+ghost use lib.ListN.{length, replicate};
+ghost use lib.Seq.{sets};
+ghost use Rattle.words.specs.Words.{sub64, zeroBytes};
+ghost use Rattle.words.specs.Bytes.{lowBytes, field};
+
+// The leading zero bytes of a word.
+pub fn zero_bytes(r: u64) -> u8
+    ensures { λ z. ⌜ z ≡ zeroBytes r ⌝ }
+{
+    if r < 4294967296 {
+        if r < 65536 {
+            if r < 256 {
+                if r < 1 { 8 } else { 7 }
+            } else {
+                6
+            }
+        } else {
+            if r < 16777216 { 5 } else { 4 }
+        }
+    } else {
+        if r < 281474976710656 {
+            if r < 1099511627776 { 3 } else { 2 }
+        } else {
+            if r < 72057594037927936 { 1 } else { 0 }
+        }
+    }
+}
+
+// The difference of two words, modulo 2^64.
+pub fn difference(a: u64, b: u64) -> u64
+    ensures { λ r. ⌜ r ≡ sub64 a b ⌝ }
+{
+    std::num::wrapping_sub_u64(a, b)
+}
+
+// Sets every word of a table to zero.
+pub fn clear(table: &mut [u64])
+    ensures { λ _. ⌜ now (table .exit) ≡ replicate (length (now (table .entry))) 0 ⌝ }
+{
+    let mut i = 0;
+    while i < table.len() {
+        table[i] = 0;
+        i += 1;
+    }
+}
+
+// Writes the k low bytes of x at a place, low byte first.
+pub fn put_bytes(out: &mut [u8], at: usize, k: usize, x: u64)
+    requires { ⌜ at + k ≤ length (now out) ⌝ }
+    ensures { λ _. ⌜ now (out .exit) ≡ sets (now (out .entry)) at (lowBytes k x) ⌝ }
+{
+    let mut j = 0;
+    let mut rest = x;
+    while j < k {
+        out[at + j] = (rest % 256) as u8;
+        rest = rest / 256;
+        j += 1;
+    }
+}
+
+// A byte as a word. (A cast of an element would ask its bound again at each use.)
+fn wide(b: u8) -> u64
+    ensures { λ r. ⌜ (r ≡ b) × (r < 256) ⌝ }
+{
+    b as u64
+}
+
+// Reads the number in a field of k bytes at a place, from its last byte down.
+pub fn get_bytes(src: &[u8], at: usize, k: usize) -> u64
+    requires { ⌜ (at + k ≤ length (now src)) × (k ≤ 8) ⌝ }
+    ensures { λ r. ⌜ r ≡ field k at (now (src .entry)) ⌝ }
+{
+    let mut j = k;
+    let mut x: u64 = 0;
+    while 0 < j {
+        j -= 1;
+        x = x * 256 + wide(src[at + j]);
+    }
+    x
+}

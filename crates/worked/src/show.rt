@@ -1,0 +1,56 @@
+// Printing what came out.
+use libc::STDOUT_FILENO;
+
+pub fn text(bytes: &[u8]) {
+    io::write_all(STDOUT_FILENO, bytes);
+}
+
+pub fn number(n: u64) {
+    io::print_decimal(STDOUT_FILENO, n);
+}
+
+// A number in hex after a space, with at least so many digits.
+fn hex(n: u64, digits: usize) {
+    text(b" ");
+    io::print_hex(STDOUT_FILENO, n, digits);
+}
+
+// The first n bytes, or all where there are fewer.
+pub fn first(bytes: &[u8], n: usize) -> &[u8] {
+    if n <= bytes.len() {
+        &bytes[0..n]
+    } else {
+        bytes
+    }
+}
+
+// The first n words, or all where there are fewer.
+pub fn first_words(words: &[u64], n: usize) -> &[u64] {
+    if n <= words.len() {
+        &words[0..n]
+    } else {
+        words
+    }
+}
+
+fn wide(b: u8) -> u64 {
+    b as u64
+}
+
+// Bytes in hex.
+pub fn bytes(bytes: &[u8]) {
+    let mut i = 0;
+    while i < bytes.len() {
+        hex(wide(bytes[i]), 2);
+        i += 1;
+    }
+}
+
+// Words in hex.
+pub fn words(words: &[u64]) {
+    let mut i = 0;
+    while i < words.len() {
+        hex(words[i], 1);
+        i += 1;
+    }
+}
