@@ -7,16 +7,16 @@ use native.Mathlib.Omega.{arith}
 use lib.Dec.{eqb}
 use lib.ListN.{length, take, drop, length-append, length-drop}
 use lib.Seq.{take-append-le, drop-append-le}
-use borrow.Author.Tests.{leb-true, le-leb, lt-leb, eqb-true, eq-eqb, ne-eqb}
+use borrow.Author.Tests.{leb-true, le-leb, lt-leb, eqb-true, eqb-false, eq-eqb, ne-eqb}
 use Rattle.words.specs.Bytes.{number}
 use Rattle.words.proofs.Tests.{either}
-use Rattle.blocks.specs.Block.{block, worst, count, statedLength, residualsAt, countedCodes, lastHalf, cost, wordsIn}
-use Rattle.blocks.specs.Numbers.{left, packNumber, fillerStands, blockNumber, unpackNumber, tOf}
-use Rattle.blocks.specs.Calls.{packed, packsTo, Packs, checked, unpacked, unpacksTo, Unpacks}
+use Rattle.blocks.specs.Block.{block, worst, count, statedLength, residualsAt, countedCodes, lastHalf, residualLength, wordsIn}
+use Rattle.blocks.specs.Numbers.{afterwards, packNumber, fillerStands, blockNumber, unpackNumber, tOf}
+use Rattle.blocks.specs.Calls.{packed, packsNumber, Packs, checked, unpacked, unpacksNumber, Unpacks}
 use Rattle.blocks.specs.Inside.{Packable, PacksAll, Counted, Unpackable, UnpacksAll}
 use Rattle.blocks.specs.declared.Packed.{Packed}
 use Rattle.blocks.specs.declared.Unpacked.{Unpacked}
-use Rattle.blocks.proofs.Checks.{check-passes, check-fails, check-holds, all-pass, fails-here, fails-later, none-fails, left-new, left-old}
+use Rattle.blocks.proofs.Checks.{unless-passes, unless-fails, unless-holds, all-pass, fails-here, fails-later, none-fails, afterwards-new, afterwards-old}
 use Rattle.blocks.proofs.Tables.{tables-sized, sized-tables}
 
 -- ---- pack
@@ -28,8 +28,8 @@ packable n f d room e =
     let b = none-fails _ _ (a .1) in
     record {
       sized = tables-sized f d (a .0);
-      few = leb-true _ _ (check-holds _ _ (b .0) (omega arith));
-      room = leb-true _ _ (check-holds _ _ (none-fails _ _ (b .1) .0) (omega arith));
+      few = leb-true _ _ (unless-holds _ _ (b .0) (omega arith));
+      room = leb-true _ _ (unless-holds _ _ (none-fails _ _ (b .1) .0) (omega arith));
     }
 
 pub packable-packs : (n f d room : ℕ) → Packable n f d room → packNumber n f d room ≡ 0
@@ -37,24 +37,24 @@ unfolding packNumber
 packable-packs n f d room p =
     sym
     (fails-later _ _ _ (sym (sized-tables f d (p .sized)))
-    (fails-later _ _ _ (check-passes _ _ (le-leb _ _ (p .few)))
-    (fails-later _ _ _ (check-passes _ _ (le-leb _ _ (p .room))) all-pass)))
+    (fails-later _ _ _ (unless-passes _ _ (le-leb _ _ (p .few)))
+    (fails-later _ _ _ (unless-passes _ _ (le-leb _ _ (p .room))) all-pass)))
 
-pub pack-refused : (ws f d out : List ℕ) (k : ℕ) → k ≡ packsTo ws f d out → (k ≡ 0 → ⊥) → Packs ws f d out (record { number = k; length = 0 }) f d out
+pub pack-refused : (ws f d out : List ℕ) (k : ℕ) → k ≡ packsNumber ws f d out → (k ≡ 0 → ⊥) → Packs ws f d out (record { number = k; length = 0 }) f d out
 unfolding packed
 pack-refused ws f d out k e h =
-    let r : packsTo ws f d out ≡ 0 → ⊥ = λ z. h (e ∙ z) in
-    record { answer = cc (left-old _ (length (block (tOf (length f)) ws)) 0 r); fcmLeft = sym (left-old _ _ f r); dfcmLeft = sym (left-old _ _ d r); outLeft = sym (left-old _ _ out r) }
+    let r : packsNumber ws f d out ≡ 0 → ⊥ = λ z. h (e ∙ z) in
+    record { answer = cc (afterwards-old _ (length (block (tOf (length f)) ws)) 0 r); fcmLeft = sym (afterwards-old _ _ f r); dfcmLeft = sym (afterwards-old _ _ d r); outLeft = sym (afterwards-old _ _ out r) }
 
-pub pack-done : (ws f d out f' d' out' : List ℕ) (k : ℕ) → packsTo ws f d out ≡ 0 → PacksAll (tOf (length f)) ws out f' d' out' k
+pub pack-done : (ws f d out f' d' out' : List ℕ) (k : ℕ) → packsNumber ws f d out ≡ 0 → PacksAll (tOf (length f)) ws out f' d' out' k
     → Packs ws f d out (record { number = 0; length = k }) f' d' out'
 unfolding packed
 pack-done ws f d out f' d' out' k z p =
     record {
-      answer = cc (left-new _ (length (block (tOf (length f)) ws)) 0 z, p .size);
-      fcmLeft = p .fcm ∙ sym (left-new _ _ f z);
-      dfcmLeft = p .dfcm ∙ sym (left-new _ _ d z);
-      outLeft = p .out ∙ sym (left-new _ _ out z);
+      answer = cc (afterwards-new _ (length (block (tOf (length f)) ws)) 0 z, p .size);
+      fcmLeft = p .fcm ∙ sym (afterwards-new _ _ f z);
+      dfcmLeft = p .dfcm ∙ sym (afterwards-new _ _ d z);
+      outLeft = p .out ∙ sym (afterwards-new _ _ out z);
     }
 
 -- ---- check
@@ -64,7 +64,7 @@ pub record Whole (b : List ℕ) : Type 0 where
   pub long : 8 ≤ length b
   pub few : count b ≤ 65536
   pub stated : statedLength b ≡ length b
-  pub adds : length b ≡ residualsAt (count b) + cost (countedCodes b)
+  pub adds : length b ≡ residualsAt (count b) + residualLength (countedCodes b)
   pub filler : fillerStands b ≡ true
 
 pub whole : (b : List ℕ) → blockNumber b ≡ 0 → Whole b
@@ -74,24 +74,24 @@ whole b e =
     let c = none-fails _ _ (a .1) in
     let d = none-fails _ _ (c .1) in
     let f = none-fails _ _ (d .1) in
-    let s : statedLength b ≡ length b = eqb-true _ _ (check-holds _ _ (d .0) (omega arith)) in
+    let s : statedLength b ≡ length b = eqb-true _ _ (unless-holds _ _ (d .0) (omega arith)) in
     record {
-      long = leb-true _ _ (check-holds _ _ (a .0) (omega arith));
-      few = leb-true _ _ (check-holds _ _ (c .0) (omega arith));
+      long = leb-true _ _ (unless-holds _ _ (a .0) (omega arith));
+      few = leb-true _ _ (unless-holds _ _ (c .0) (omega arith));
       stated = s;
-      adds = sym s ∙ eqb-true _ _ (check-holds _ _ (f .0) (omega arith));
-      filler = check-holds _ _ (none-fails _ _ (f .1) .0) (omega arith);
+      adds = sym s ∙ eqb-true _ _ (unless-holds _ _ (f .0) (omega arith));
+      filler = unless-holds _ _ (none-fails _ _ (f .1) .0) (omega arith);
     }
 
 pub whole-checks : (b : List ℕ) → Whole b → blockNumber b ≡ 0
 unfolding blockNumber
 whole-checks b w =
     sym
-    (fails-later _ _ _ (check-passes _ _ (le-leb _ _ (w .long)))
-    (fails-later _ _ _ (check-passes _ _ (le-leb _ _ (w .few)))
-    (fails-later _ _ _ (check-passes _ _ (eq-eqb _ _ (w .stated)))
-    (fails-later _ _ _ (check-passes _ _ (eq-eqb _ _ (w .stated ∙ w .adds)))
-    (fails-later _ _ _ (check-passes _ _ (w .filler)) all-pass)))))
+    (fails-later _ _ _ (unless-passes _ _ (le-leb _ _ (w .long)))
+    (fails-later _ _ _ (unless-passes _ _ (le-leb _ _ (w .few)))
+    (fails-later _ _ _ (unless-passes _ _ (eq-eqb _ _ (w .stated)))
+    (fails-later _ _ _ (unless-passes _ _ (eq-eqb _ _ (w .stated ∙ w .adds)))
+    (fails-later _ _ _ (unless-passes _ _ (w .filler)) all-pass)))))
 
 pub filler-needs : (b : List ℕ) → fillerStands b ≡ true → count b % 2 ≡ 1 → lastHalf b ≡ 7
 unfolding fillerStands
@@ -105,42 +105,42 @@ filler-has b h = either (eqb (count b % 2) 1) (λ e. rw (e, eq-eqb _ _ (h (eqb-t
 module _ (b : List ℕ) where
   pub too-short : length b < 8 → 4 ≡ blockNumber b
   unfolding blockNumber
-  too-short h = fails-here _ _ _ (check-fails _ _ (lt-leb _ _ h)) (λ e. omega arith)
+  too-short h = fails-here _ _ _ (unless-fails _ _ (lt-leb _ _ h)) (λ e. omega arith)
 
   module _ (n : ℕ) (long : 8 ≤ length b) (e : n ≡ count b) where
     pub too-many : 65536 < n → 2 ≡ blockNumber b
     unfolding blockNumber
     too-many h =
-        fails-later _ _ _ (check-passes _ _ (le-leb _ _ long))
-        (fails-here _ _ _ (check-fails _ _ (lt-leb (count b) 65536 (omega arith))) (λ z. omega arith))
+        fails-later _ _ _ (unless-passes _ _ (le-leb _ _ long))
+        (fails-here _ _ _ (unless-fails _ _ (lt-leb (count b) 65536 (omega arith))) (λ z. omega arith))
 
     module _ (few : n ≤ 65536) (s : ℕ) (q : s ≡ statedLength b) where
       pub misstated : (s ≡ length b → ⊥) → 5 ≡ blockNumber b
       unfolding blockNumber
       misstated h =
-          fails-later _ _ _ (check-passes _ _ (le-leb _ _ long))
-          (fails-later _ _ _ (check-passes _ _ (le-leb (count b) 65536 (omega arith)))
-          (fails-here _ _ _ (check-fails _ _ (ne-eqb _ _ (λ z. h (q ∙ z)))) (λ z. omega arith)))
+          fails-later _ _ _ (unless-passes _ _ (le-leb _ _ long))
+          (fails-later _ _ _ (unless-passes _ _ (le-leb (count b) 65536 (omega arith)))
+          (fails-here _ _ _ (unless-fails _ _ (ne-eqb _ _ (λ z. h (q ∙ z)))) (λ z. omega arith)))
 
       module _ (stated : s ≡ length b) where
-        pub uneven : (length b ≡ residualsAt n + cost (countedCodes b) → ⊥) → 5 ≡ blockNumber b
+        pub uneven : (length b ≡ residualsAt n + residualLength (countedCodes b) → ⊥) → 5 ≡ blockNumber b
         unfolding blockNumber
         uneven h =
-            fails-later _ _ _ (check-passes _ _ (le-leb _ _ long))
-            (fails-later _ _ _ (check-passes _ _ (le-leb (count b) 65536 (omega arith)))
-            (fails-later _ _ _ (check-passes _ _ (eq-eqb _ _ (sym q ∙ stated)))
-            (fails-here _ _ _ (check-fails _ _ (ne-eqb _ _ (λ z. h (sym stated ∙ q ∙ z ∙ ap (λ (k : ℕ). residualsAt k + cost (countedCodes b)) (sym e)))))
+            fails-later _ _ _ (unless-passes _ _ (le-leb _ _ long))
+            (fails-later _ _ _ (unless-passes _ _ (le-leb (count b) 65536 (omega arith)))
+            (fails-later _ _ _ (unless-passes _ _ (eq-eqb _ _ (sym q ∙ stated)))
+            (fails-here _ _ _ (unless-fails _ _ (ne-eqb _ _ (λ z. h (sym stated ∙ q ∙ z ∙ ap (λ (k : ℕ). residualsAt k + residualLength (countedCodes b)) (sym e)))))
             (λ z. omega arith))))
 
-        module _ (adds : length b ≡ residualsAt n + cost (countedCodes b)) where
+        module _ (adds : length b ≡ residualsAt n + residualLength (countedCodes b)) where
           pub unfilled : fillerStands b ≡ false → 6 ≡ blockNumber b
           unfolding blockNumber
           unfilled h =
-              fails-later _ _ _ (check-passes _ _ (le-leb _ _ long))
-              (fails-later _ _ _ (check-passes _ _ (le-leb (count b) 65536 (omega arith)))
-              (fails-later _ _ _ (check-passes _ _ (eq-eqb _ _ (sym q ∙ stated)))
-              (fails-later _ _ _ (check-passes _ _ (eq-eqb _ _ (sym q ∙ stated ∙ adds ∙ ap (λ (k : ℕ). residualsAt k + cost (countedCodes b)) e)))
-              (fails-here _ _ _ (check-fails _ _ h) (λ z. omega arith)))))
+              fails-later _ _ _ (unless-passes _ _ (le-leb _ _ long))
+              (fails-later _ _ _ (unless-passes _ _ (le-leb (count b) 65536 (omega arith)))
+              (fails-later _ _ _ (unless-passes _ _ (eq-eqb _ _ (sym q ∙ stated)))
+              (fails-later _ _ _ (unless-passes _ _ (eq-eqb _ _ (sym q ∙ stated ∙ adds ∙ ap (λ (k : ℕ). residualsAt k + residualLength (countedCodes b)) e)))
+              (fails-here _ _ _ (unless-fails _ _ h) (λ z. omega arith)))))
 
           pub fine : fillerStands b ≡ true → 0 ≡ blockNumber b
           fine h =
@@ -150,9 +150,15 @@ module _ (b : List ℕ) where
                 long = long;
                 few = omega arith;
                 stated = sym q ∙ stated;
-                adds = adds ∙ ap (λ (k : ℕ). residualsAt k + cost (countedCodes b)) e;
+                adds = adds ∙ ap (λ (k : ℕ). residualsAt k + residualLength (countedCodes b)) e;
                 filler = h;
               }))
+
+pub too-short-for-codes : (b : List ℕ) → 8 ≤ length b → count b ≤ 65536 → length b < residualsAt (count b) → 5 ≡ blockNumber b
+too-short-for-codes b h few l =
+    either (eqb (statedLength b) (length b))
+    (λ e. uneven b (count b) h refl few (statedLength b) refl (eqb-true _ _ e) (λ z. omega arith))
+    (λ e. misstated b (count b) h refl few (statedLength b) refl (eqb-false _ _ e))
 
 pub counted : (b : List ℕ) (n : ℕ) → blockNumber b ≡ 0 → n ≡ count b → Counted b n
 counted b n e c =
@@ -166,7 +172,7 @@ unfolding unpackNumber
 unpackable b f d room e =
     let a = none-fails _ _ e in
     let c = none-fails _ _ (a .1) in
-    record { sized = tables-sized f d (a .0); whole = c .0; room = leb-true _ _ (check-holds _ _ (none-fails _ _ (c .1) .0) (omega arith)) }
+    record { sized = tables-sized f d (a .0); whole = c .0; room = leb-true _ _ (unless-holds _ _ (none-fails _ _ (c .1) .0) (omega arith)) }
 
 pub unpackable-unpacks : (b : List ℕ) (f d room : ℕ) → Unpackable b f d room → unpackNumber b f d room ≡ 0
 unfolding unpackNumber
@@ -174,40 +180,40 @@ unpackable-unpacks b f d room u =
     sym
     (fails-later _ _ _ (sym (sized-tables f d (u .sized)))
     (fails-later _ _ _ (u .whole)
-    (fails-later _ _ _ (check-passes _ _ (le-leb _ _ (u .room))) all-pass)))
+    (fails-later _ _ _ (unless-passes _ _ (le-leb _ _ (u .room))) all-pass)))
 
-pub unpack-refused : (b f d ws : List ℕ) (k : ℕ) → k ≡ unpacksTo b f d ws → (k ≡ 0 → ⊥) → Unpacks b f d ws (record { number = k; count = 0 }) f d ws
+pub unpack-refused : (b f d ws : List ℕ) (k : ℕ) → k ≡ unpacksNumber b f d ws → (k ≡ 0 → ⊥) → Unpacks b f d ws (record { number = k; count = 0 }) f d ws
 unfolding unpacked
 unpack-refused b f d ws k e h =
-    let r : unpacksTo b f d ws ≡ 0 → ⊥ = λ z. h (e ∙ z) in
-    record { answer = cc (left-old _ (count b) 0 r); fcmLeft = sym (left-old _ _ f r); dfcmLeft = sym (left-old _ _ d r); wordsLeft = sym (left-old _ _ ws r) }
+    let r : unpacksNumber b f d ws ≡ 0 → ⊥ = λ z. h (e ∙ z) in
+    record { answer = cc (afterwards-old _ (count b) 0 r); fcmLeft = sym (afterwards-old _ _ f r); dfcmLeft = sym (afterwards-old _ _ d r); wordsLeft = sym (afterwards-old _ _ ws r) }
 
-pub unpack-done : (b f d ws f' d' ws' : List ℕ) (k : ℕ) → unpacksTo b f d ws ≡ 0 → UnpacksAll (tOf (length f)) b ws f' d' ws' k
+pub unpack-done : (b f d ws f' d' ws' : List ℕ) (k : ℕ) → unpacksNumber b f d ws ≡ 0 → UnpacksAll (tOf (length f)) b ws f' d' ws' k
     → Unpacks b f d ws (record { number = 0; count = k }) f' d' ws'
 unfolding unpacked
 unpack-done b f d ws f' d' ws' k z p =
     record {
-      answer = cc (left-new _ (count b) 0 z, p .count);
-      fcmLeft = p .fcm ∙ sym (left-new _ _ f z);
-      dfcmLeft = p .dfcm ∙ sym (left-new _ _ d z);
-      wordsLeft = p .words ∙ sym (left-new _ _ ws z);
+      answer = cc (afterwards-new _ (count b) 0 z, p .count);
+      fcmLeft = p .fcm ∙ sym (afterwards-new _ _ f z);
+      dfcmLeft = p .dfcm ∙ sym (afterwards-new _ _ d z);
+      wordsLeft = p .words ∙ sym (afterwards-new _ _ ws z);
     }
 
 pub check-refused : (b : List ℕ) (k : ℕ) → k ≡ blockNumber b → (k ≡ 0 → ⊥) → record { number = k; count = 0 } ≡ checked b
 unfolding checked
-check-refused b k e h = cc (left-old (blockNumber b) (count b) 0 (λ z. h (e ∙ z)))
+check-refused b k e h = cc (afterwards-old (blockNumber b) (count b) 0 (λ z. h (e ∙ z)))
 
 pub check-done : (b : List ℕ) (n : ℕ) → blockNumber b ≡ 0 → n ≡ count b → record { number = 0; count = n } ≡ checked b
 unfolding checked
-check-done b n z e = cc (left-new (blockNumber b) (count b) 0 z)
+check-done b n z e = cc (afterwards-new (blockNumber b) (count b) 0 z)
 
 -- ---- from an answer
 
-pub packs-number : {ws f d out f' d' out' : List ℕ} {r : Packed} → Packs ws f d out r f' d' out' → r .number ≡ packsTo ws f d out
+pub packs-number : {ws f d out f' d' out' : List ℕ} {r : Packed} → Packs ws f d out r f' d' out' → r .number ≡ packsNumber ws f d out
 unfolding packed
 packs-number p = ap (λ (x : Packed). x .number) (p .answer)
 
-pub unpacks-number : {b f d ws f' d' ws' : List ℕ} {r : Unpacked} → Unpacks b f d ws r f' d' ws' → r .number ≡ unpacksTo b f d ws
+pub unpacks-number : {b f d ws f' d' ws' : List ℕ} {r : Unpacked} → Unpacks b f d ws r f' d' ws' → r .number ≡ unpacksNumber b f d ws
 unfolding unpacked
 unpacks-number p = ap (λ (x : Unpacked). x .number) (p .answer)
 
@@ -221,10 +227,10 @@ unfolding packed
 packs-all-of p e =
     let z = sym (packs-number p) ∙ e in
     record {
-      size = ap (λ (x : Packed). x .length) (p .answer) ∙ left-new _ _ 0 z;
-      fcm = p .fcmLeft ∙ left-new _ _ _ z;
-      dfcm = p .dfcmLeft ∙ left-new _ _ _ z;
-      out = p .outLeft ∙ left-new _ _ _ z;
+      size = ap (λ (x : Packed). x .length) (p .answer) ∙ afterwards-new _ _ 0 z;
+      fcm = p .fcmLeft ∙ afterwards-new _ _ _ z;
+      dfcm = p .dfcmLeft ∙ afterwards-new _ _ _ z;
+      out = p .outLeft ∙ afterwards-new _ _ _ z;
     }
 
 pub unpacks-all-of : {b f d ws f' d' ws' : List ℕ} {r : Unpacked} → Unpacks b f d ws r f' d' ws' → r .number ≡ 0 → UnpacksAll (tOf (length f)) b ws f' d' ws' (r .count)
@@ -232,10 +238,10 @@ unfolding unpacked
 unpacks-all-of p e =
     let z = sym (unpacks-number p) ∙ e in
     record {
-      count = ap (λ (x : Unpacked). x .count) (p .answer) ∙ left-new _ _ 0 z;
-      fcm = p .fcmLeft ∙ left-new _ _ _ z;
-      dfcm = p .dfcmLeft ∙ left-new _ _ _ z;
-      words = p .wordsLeft ∙ left-new _ _ _ z;
+      count = ap (λ (x : Unpacked). x .count) (p .answer) ∙ afterwards-new _ _ 0 z;
+      fcm = p .fcmLeft ∙ afterwards-new _ _ _ z;
+      dfcm = p .dfcmLeft ∙ afterwards-new _ _ _ z;
+      words = p .wordsLeft ∙ afterwards-new _ _ _ z;
     }
 
 pub unpacked-of : (r : Unpacked) (k n : ℕ) → r .number ≡ k → r .count ≡ n → r ≡ record { number = k; count = n }
@@ -243,7 +249,7 @@ unpacked-of r k n p q = rw (← p, ← q)
 
 -- ---- a whole block and what stands beside it
 
-stated-first : (b c : List ℕ) → 8 ≤ length b → statedLength (b ++ c) ≡ statedLength b
+pub stated-first : (b c : List ℕ) → 8 ≤ length b → statedLength (b ++ c) ≡ statedLength b
 stated-first b c h =
     ap number (ap (λ (l : List ℕ). take 4 l) (drop-append-le 4 b c (omega arith)) ∙ take-append-le 4 (drop 4 b) c (omega (arith, length-drop 4 b)))
 

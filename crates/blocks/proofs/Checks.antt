@@ -7,24 +7,24 @@ use native.Mathlib.Omega.{arith}
 use native.Mathlib.Nat.{zero-add}
 use lib.ListN.{length, drop}
 use lib.Seq.{sets, sets-eq}
-use Rattle.blocks.specs.Numbers.{check, firstFailure, left, over}
+use Rattle.blocks.specs.Numbers.{unless, firstFailure, afterwards, over}
 
 -- ---- a check
 
-pub check-passes : (test : Bool) (k : ℕ) → test ≡ true → check test k ≡ 0
-unfolding check
-check-passes true k e = refl
-check-passes false k e = absurd (let z : _≡_ {A = ℕ} 0 1 = cc in omega arith)
+pub unless-passes : (test : Bool) (k : ℕ) → test ≡ true → unless test k ≡ 0
+unfolding unless
+unless-passes true k e = refl
+unless-passes false k e = absurd (let z : _≡_ {A = ℕ} 0 1 = cc in omega arith)
 
-pub check-fails : (test : Bool) (k : ℕ) → test ≡ false → k ≡ check test k
-unfolding check
-check-fails false k e = refl
-check-fails true k e = absurd (let z : _≡_ {A = ℕ} 0 1 = cc in omega arith)
+pub unless-fails : (test : Bool) (k : ℕ) → test ≡ false → k ≡ unless test k
+unfolding unless
+unless-fails false k e = refl
+unless-fails true k e = absurd (let z : _≡_ {A = ℕ} 0 1 = cc in omega arith)
 
-pub check-holds : (test : Bool) (k : ℕ) → check test k ≡ 0 → 0 < k → test ≡ true
-unfolding check
-check-holds true k e h = refl
-check-holds false k e h = absurd (omega arith)
+pub unless-holds : (test : Bool) (k : ℕ) → unless test k ≡ 0 → 0 < k → test ≡ true
+unfolding unless
+unless-holds true k e h = refl
+unless-holds false k e h = absurd (omega arith)
 
 -- ---- checks in order
 
@@ -42,6 +42,19 @@ unfolding firstFailure
 fails-here zero n ks e h = absurd (h e)
 fails-here (suc k) n ks e h = e
 
+-- the last check decides
+pub last-decides : (k : ℕ) → k ≡ firstFailure (k ∷ [])
+unfolding firstFailure
+last-decides zero = refl
+last-decides (suc k) = refl
+
+-- a check that holds is passed by, and one that fails stops
+pub passes : (test : Bool) (k n : ℕ) (ks : List ℕ) → test ≡ true → n ≡ firstFailure ks → n ≡ firstFailure (unless test k ∷ ks)
+passes test k n ks e f = fails-later _ _ _ (unless-passes test k e) f
+
+pub stops : (test : Bool) (k : ℕ) (ks : List ℕ) → test ≡ false → 0 < k → k ≡ firstFailure (unless test k ∷ ks)
+stops test k ks e h = fails-here _ _ _ (unless-fails test k e) (λ z. omega arith)
+
 -- nothing fails: the first check holds, and nothing fails after it
 pub none-fails : (k : ℕ) (ks : List ℕ) → firstFailure (k ∷ ks) ≡ 0 → (k ≡ 0) × (firstFailure ks ≡ 0)
 unfolding firstFailure
@@ -50,15 +63,15 @@ none-fails (suc k) ks e = absurd (omega arith)
 
 -- ---- what is left
 
-pub left-new : {A : Type 0} (k : ℕ) (new old : A) → k ≡ 0 → left k new old ≡ new
-unfolding left
-left-new zero new old e = refl
-left-new (suc k) new old e = absurd (omega arith)
+pub afterwards-new : {A : Type 0} (k : ℕ) (new old : A) → k ≡ 0 → afterwards k new old ≡ new
+unfolding afterwards
+afterwards-new zero new old e = refl
+afterwards-new (suc k) new old e = absurd (omega arith)
 
-pub left-old : {A : Type 0} (k : ℕ) (new old : A) → (k ≡ 0 → ⊥) → left k new old ≡ old
-unfolding left
-left-old zero new old h = absurd (h refl)
-left-old (suc k) new old h = refl
+pub afterwards-old : {A : Type 0} (k : ℕ) (new old : A) → (k ≡ 0 → ⊥) → afterwards k new old ≡ old
+unfolding afterwards
+afterwards-old zero new old h = absurd (h refl)
+afterwards-old (suc k) new old h = refl
 
 -- stores from the first place on, within the list
 pub sets-over : (vs l : List ℕ) → length vs ≤ length l → sets l 0 vs ≡ over vs l

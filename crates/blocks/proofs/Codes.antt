@@ -97,6 +97,15 @@ pub chosen-of : (f d zf zd : ℕ) → zf ≡ zeroBytes f → zd ≡ zeroBytes d 
 unfolding dfcmChosen
 chosen-of f d zf zd p q = cc
 
+-- what is taken has no fewer leading zero bytes than what is left: all that the cost of a word rests on
+pub dfcm-taken : (f d : ℕ) → dfcmChosen f d ≡ true → zeroBytes f ≤ zeroBytes d
+unfolding dfcmChosen
+dfcm-taken f d e = omega (arith, ltb-true (zeroBytes f) (zeroBytes d) e)
+
+pub fcm-taken : (f d : ℕ) → dfcmChosen f d ≡ false → zeroBytes d ≤ zeroBytes f
+unfolding dfcmChosen
+fcm-taken f d e = ltb-false (zeroBytes f) (zeroBytes d) e
+
 pub chosen-dfcm : (f d : ℕ) (r : Coded) → dfcmChosen f d ≡ true → r ≡ codedBy true d → r ≡ chosen f d
 unfolding chosen
 chosen-dfcm f d r e q = rw e q

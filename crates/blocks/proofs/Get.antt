@@ -12,7 +12,7 @@ use borrow.Author.Tests.{eq-eqb, ne-eqb}
 use Rattle.words.specs.Bytes.{field}
 use Rattle.blocks.specs.Predictors.{Memory, cleared, learn, after}
 use Rattle.blocks.specs.Codes.{written, decodedWord, decodedWords}
-use Rattle.blocks.specs.Block.{count, halves, countedCodes, lastHalf, cost, withResiduals, residualsAt, wordsIn}
+use Rattle.blocks.specs.Block.{count, halves, countedCodes, lastHalf, residualLength, withResiduals, residualsAt, wordsIn}
 use Rattle.blocks.specs.Numbers.{tOf, fillerStands, blockNumber}
 use Rattle.blocks.specs.Inside.{memory, Ready, Decodes, Counted, Getting, Gets}
 use Rattle.blocks.specs.declared.Coded.{Coded}
@@ -65,11 +65,11 @@ counted-next b n i c h =
 pub counted-none : (b : List ℕ) (n i : ℕ) → Counted b n → n ≤ i → drop i (countedCodes b) ≡ []
 counted-none b n i c h = drop-of-length-le (countedCodes b) {i = i} (omega (arith, length-counted b n c))
 
-cost-at-most : (cs : List ℕ) → cost cs ≤ 8 * length cs
+cost-at-most : (cs : List ℕ) → residualLength cs ≤ 8 * length cs
 cost-at-most [] = omega arith
 cost-at-most (c ∷ cs) = omega (arith, cost-at-most cs, written-small c)
 
-pub counted-cost : (b : List ℕ) (n : ℕ) → Counted b n → cost (countedCodes b) ≤ 8 * n
+pub counted-cost : (b : List ℕ) (n : ℕ) → Counted b n → residualLength (countedCodes b) ≤ 8 * n
 counted-cost b n c = omega (arith, cost-at-most (countedCodes b), length-counted b n c)
 
 pub length-with : (cs bs : List ℕ) → length (withResiduals cs bs) ≡ length cs
@@ -85,7 +85,7 @@ length-decoded t m (c ∷ cs) = ap suc (length-decoded t (learn t m (decodedWord
 pub record Adding (b : List ℕ) (n sum i : ℕ) : Type 0 where
   pub upto : i ≤ n
   pub small : sum ≤ 8 * i
-  pub whole : sum + cost (drop i (countedCodes b)) ≡ cost (countedCodes b)
+  pub whole : sum + residualLength (drop i (countedCodes b)) ≡ residualLength (countedCodes b)
 
 pub adding-starts : (b : List ℕ) (n : ℕ) → Adding b n 0 0
 adding-starts b n = record { upto = omega arith; small = omega arith; whole = omega arith }
@@ -98,7 +98,7 @@ adding-on b n sum i c k u h g e f =
       whole = rw (f, e) (omega (arith, rw (counted-next b n i u h) at (g .whole)));
     }
 
-pub adding-ends : (b : List ℕ) (n sum i : ℕ) → Counted b n → n ≤ i → Adding b n sum i → sum ≡ cost (countedCodes b)
+pub adding-ends : (b : List ℕ) (n sum i : ℕ) → Counted b n → n ≤ i → Adding b n sum i → sum ≡ residualLength (countedCodes b)
 adding-ends b n sum i u h g = omega (arith, rw (counted-none b n i u h) at (g .whole))
 
 -- ---- the filler

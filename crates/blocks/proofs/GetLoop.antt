@@ -9,7 +9,7 @@ use lib.Seq.{sets, drop-drop}
 use Rattle.words.specs.Bytes.{field}
 use Rattle.blocks.specs.Predictors.{Memory, cleared, learn, after}
 use Rattle.blocks.specs.Codes.{written, decodedWord, decodedWords}
-use Rattle.blocks.specs.Block.{count, halves, countedCodes, cost, withResiduals, residualsAt, wordsIn}
+use Rattle.blocks.specs.Block.{count, halves, countedCodes, residualLength, withResiduals, residualsAt, wordsIn}
 use Rattle.blocks.specs.Numbers.{tOf}
 use Rattle.blocks.specs.Inside.{memory, Ready, Decodes, Counted, Getting, Gets, Unpackable, UnpacksAll}
 use Rattle.blocks.specs.declared.Coded.{Coded}
@@ -31,7 +31,7 @@ pub record Going (b : List ℕ) (n : ℕ) (f₀ d₀ words₀ f d words : List �
   pub dfcmLong : length d ≡ length d₀
   pub wordsLong : length words ≡ length words₀
   pub ready : Ready f d c
-  pub bytes : at + cost (drop i (countedCodes b)) ≡ length b
+  pub bytes : at + residualLength (drop i (countedCodes b)) ≡ length b
   pub state :
       after (tOf (length f₀)) (memory f d c) (decodedWords (tOf (length f₀)) (memory f d c) (rest b i at))
       ≡ after (tOf (length f₀)) (cleared (tOf (length f₀))) (wordsIn (tOf (length f₀)) b)

@@ -1,5 +1,5 @@
 -- What the code of the predictors computes is what the definitions say.
-use mathlib.Core.Path.{_≡_, refl, sym, ap, _∙_}
+use mathlib.Core.Path.{_≡_, refl, sym, ap, _∙_, subst}
 use mathlib.Core.List.{List}
 use Prim.Native.Nat.{ℕ, _+_, _-_, _*_, _%_, _^_, _≤_, _<_}
 use native.Mathlib.Omega.{arith}
@@ -10,7 +10,7 @@ use lib.ListN.{length, getD, set, replicate, length-set, length-replicate}
 use lib.Pow.{pow-mono, pow-pos, shl-exact}
 use borrow.Author.Tests.{lt-ltb, le-ltb}
 use Rattle.words.specs.Words.{add64, sub64, shiftedLeft, lowBits, xor}
-use Rattle.blocks.specs.Predictors.{Memory, cleared, fcmPrediction, dfcmPrediction, stride, nextFcmHash, nextDfcmHash, learn}
+use Rattle.blocks.specs.Predictors.{Memory, cleared, fcmPrediction, dfcmPrediction, difference, nextFcmHash, nextDfcmHash, learn}
 use Rattle.blocks.specs.Codes.{fcmResidual, dfcmResidual, chosen, codedWord, namedPrediction, decodedWord}
 use Rattle.blocks.specs.Numbers.{tOf}
 use Rattle.blocks.specs.Inside.{memory, Sized, Ready, Masked, Codes, Decodes, Cleared}
@@ -41,7 +41,7 @@ hashed a mask h w l s =
 pub learnt-of : (f d : List ℕ) (c : Carry) (v mask s hf hd : ℕ)
     → mask + 1 ≡ length f → s ≡ sub64 v (c .last) → hf ≡ nextFcmHash (tOf (mask + 1)) (c .fcm) v → hd ≡ nextDfcmHash (tOf (mask + 1)) (c .dfcm) s
     → memory (set f (c .fcm) v) (set d (c .dfcm) s) (record { fcm = hf; dfcm = hd; last = v }) ≡ learn (tOf (length f)) (memory f d c) v
-unfolding learn stride
+unfolding learn difference
 learnt-of f d c v mask s hf hd e p q r = cc
 
 pub coded-word : (t : ℕ) (f d f' d' : List ℕ) (c c' : Carry) (v xf p xd : ℕ) (w : Coded)
@@ -66,18 +66,31 @@ decoded-word t m f' d' c' w p v e1 e2 e3 = record { word = cc; learnt = cc }
 
 -- ---- tables of one size stay so, and hashes within them
 
-pub ready-learn : (f d f' d' : List ℕ) (c c' : Carry) (v : ℕ) → Ready f d c → memory f' d' c' ≡ learn (tOf (length f)) (memory f d c) v → Ready f' d' c'
+-- the memory m has tables of 2 ^ t words, and hashes within them
+pub record Held (t : ℕ) (m : Memory) : Type 0 where
+  pub fcm : length (m .fcm) ≡ 2 ^ t
+  pub dfcm : length (m .dfcm) ≡ 2 ^ t
+  pub fcmHash : m .fcmHash < 2 ^ t
+  pub dfcmHash : m .dfcmHash < 2 ^ t
+
+pub held-cleared : (t : ℕ) → Held t (cleared t)
+unfolding cleared
+held-cleared t = record { fcm = length-replicate _ _; dfcm = length-replicate _ _; fcmHash = pow-pos t; dfcmHash = pow-pos t }
+
+pub held-learn : (t : ℕ) (m : Memory) (v : ℕ) → Held t m → Held t (learn t m v)
 unfolding learn nextFcmHash nextDfcmHash lowBits
+held-learn t m v h = record { fcm = simp length-set (h .fcm); dfcm = simp length-set (h .dfcm); fcmHash = mod-lt _ (pow-pos t); dfcmHash = mod-lt _ (pow-pos t) }
+
+pub ready-learn : (f d f' d' : List ℕ) (c c' : Carry) (v : ℕ) → Ready f d c → memory f' d' c' ≡ learn (tOf (length f)) (memory f d c) v → Ready f' d' c'
 ready-learn f d f' d' c c' v r e =
-    let t = tOf (length f) in
     let s = r .sized in
-    let lf : length f' ≡ length f = ap (λ (m : Memory). length (m .fcm)) e ∙ length-set f (c .fcm) v in
-    let ld : length d' ≡ length d = ap (λ (m : Memory). length (m .dfcm)) e ∙ length-set d (c .dfcm) _ in
-    record {
-      sized = rw (lf, ld) s;
-      fcm = rw (lf, s .power) (rw (ap (λ (m : Memory). m .fcmHash) e) (mod-lt _ (pow-pos t)));
-      dfcm = rw (lf, s .power) (rw (ap (λ (m : Memory). m .dfcmHash) e) (mod-lt _ (pow-pos t)));
-    }
+    let p = s .power in
+    let h : Held (tOf (length f)) (memory f' d' c') =
+    subst (λ (m : Memory). Held (tOf (length f)) m) (sym e)
+    (held-learn _ (memory f d c) v (record { fcm = p; dfcm = s .same ∙ p; fcmHash = rw (← p) (r .fcm); dfcmHash = rw (← p) (r .dfcm) })) in
+    let lf : length f' ≡ length f = h .fcm ∙ sym p in
+    let ld : length d' ≡ length d = h .dfcm ∙ sym p ∙ sym (s .same) in
+    record { sized = rw (lf, ld) s; fcm = omega (arith, h .fcm, h .fcmHash); dfcm = omega (arith, h .fcm, h .dfcmHash) }
 
 -- the carry before the first word
 abbrev pub start : Carry

@@ -8,4 +8,7 @@ pub mod Accept
 pub mod Get
 pub mod GetLoop
 pub mod Round
+pub mod Cost
+pub mod Settle
+pub mod Runs
 pub mod Claims

@@ -12,7 +12,7 @@ use Rattle.words.proofs.Bytes.{length-low}
 use Rattle.words.proofs.Stores.{sets-append, set-sets, sets-sets}
 use Rattle.blocks.specs.Predictors.{Memory, cleared, learn}
 use Rattle.blocks.specs.Codes.{written, residualBytes, codedWord, codedWords}
-use Rattle.blocks.specs.Block.{codes, codeBytes, residuals, body, block, residualsAt, worst}
+use Rattle.blocks.specs.Block.{codes, codeBytes, allResidualBytes, body, block, residualsAt, worst}
 use Rattle.blocks.specs.Numbers.{over}
 use Rattle.blocks.specs.Inside.{codeByte, putWord}
 use Rattle.blocks.specs.declared.Coded.{Coded}
@@ -38,18 +38,18 @@ length-code-bytes [] = refl
 length-code-bytes (c ∷ []) = refl
 length-code-bytes (c ∷ d ∷ cs) = omega (arith, length-code-bytes cs)
 
-pub length-residuals : (c : Coded) (cs : List Coded) → length (residuals (c ∷ cs)) ≡ written (c .code) + length (residuals cs)
-length-residuals c cs = length-append (residualBytes c) (residuals cs) ∙ ap (λ (k : ℕ). k + length (residuals cs)) (length-residual c)
+pub length-residuals : (c : Coded) (cs : List Coded) → length (allResidualBytes (c ∷ cs)) ≡ written (c .code) + length (allResidualBytes cs)
+length-residuals c cs = length-append (residualBytes c) (allResidualBytes cs) ∙ ap (λ (k : ℕ). k + length (allResidualBytes cs)) (length-residual c)
 
-pub residuals-at-most : (cs : List Coded) → length (residuals cs) ≤ 8 * length cs
+pub residuals-at-most : (cs : List Coded) → length (allResidualBytes cs) ≤ 8 * length cs
 residuals-at-most [] = omega arith
 residuals-at-most (c ∷ cs) = omega (arith, length-residuals c cs, residuals-at-most cs, written-small (c .code))
 
-pub length-body : (t : ℕ) (m : Memory) (ws : List ℕ) → length (body (codedWords t m ws)) ≡ (length ws + 1) / 2 + length (residuals (codedWords t m ws))
+pub length-body : (t : ℕ) (m : Memory) (ws : List ℕ) → length (body (codedWords t m ws)) ≡ (length ws + 1) / 2 + length (allResidualBytes (codedWords t m ws))
 unfolding body
 length-body t m ws = simp (length-append, length-code-bytes, length-codes, length-coded)
 
-pub length-block : (t : ℕ) (ws : List ℕ) → length (block t ws) ≡ residualsAt (length ws) + length (residuals (codedWords t (cleared t) ws))
+pub length-block : (t : ℕ) (ws : List ℕ) → length (block t ws) ≡ residualsAt (length ws) + length (allResidualBytes (codedWords t (cleared t) ws))
 unfolding block
 length-block t ws = simp length-append (omega (arith, length-body t (cleared t) ws))
 
@@ -101,20 +101,20 @@ putAll l i before at [] = l
 putAll l i before at (c ∷ cs) = putAll (putWord l i before at c) (i + 1) (c .code) (at + written (c .code)) cs
 
 putAll-parts : (cs : List Coded) (l : List ℕ) (i before at : ℕ) → residualsAt (i + length cs) ≤ at
-    → putAll l i before at cs ≡ sets (putCodes l i before (codes cs)) at (residuals cs)
+    → putAll l i before at cs ≡ sets (putCodes l i before (codes cs)) at (allResidualBytes cs)
 putAll-parts [] l i before at h = refl
 putAll-parts (c ∷ cs) l i before at h =
     let y = set l (8 + i / 2) (codeByte i before (c .code)) in
     let b = residualBytes c in
     putAll-parts cs (putWord l i before at c) (i + 1) (c .code) (at + written (c .code)) (omega arith)
-    ∙ ap (λ (x : List ℕ). sets x (at + written (c .code)) (residuals cs)) (putCodes-sets y (i + 1) (c .code) (codes cs) at b (omega (arith, length-codes cs)))
-    ∙ ap (λ (k : ℕ). sets (sets (putCodes y (i + 1) (c .code) (codes cs)) at b) (at + k) (residuals cs)) (sym (length-residual c))
-    ∙ sym (sets-append (putCodes y (i + 1) (c .code) (codes cs)) at b (residuals cs))
+    ∙ ap (λ (x : List ℕ). sets x (at + written (c .code)) (allResidualBytes cs)) (putCodes-sets y (i + 1) (c .code) (codes cs) at b (omega (arith, length-codes cs)))
+    ∙ ap (λ (k : ℕ). sets (sets (putCodes y (i + 1) (c .code) (codes cs)) at b) (at + k) (allResidualBytes cs)) (sym (length-residual c))
+    ∙ sym (sets-append (putCodes y (i + 1) (c .code) (codes cs)) at b (allResidualBytes cs))
 
 -- from the first word on
 pub putAll-whole : (cs : List Coded) (l : List ℕ) (at : ℕ) → residualsAt (length cs) ≤ at
-    → putAll l 0 0 at cs ≡ sets (sets l 8 (codeBytes (codes cs))) at (residuals cs)
-putAll-whole cs l at h = putAll-parts cs l 0 0 at (omega arith) ∙ ap (λ (x : List ℕ). sets x at (residuals cs)) (putCodes-pairs (codes cs) l 0 0)
+    → putAll l 0 0 at cs ≡ sets (sets l 8 (codeBytes (codes cs))) at (allResidualBytes cs)
+putAll-whole cs l at h = putAll-parts cs l 0 0 at (omega arith) ∙ ap (λ (x : List ℕ). sets x at (allResidualBytes cs)) (putCodes-pairs (codes cs) l 0 0)
 
 -- ---- the block
 
@@ -131,17 +131,17 @@ put-parts out head cb rs at e k l =
     ∙ sets-over (head ++ (cb ++ rs)) out l
 
 put-whole : (t : ℕ) (ws out : List ℕ) → length (block t ws) ≤ length out
-    → sets (sets (sets out 8 (codeBytes (codes (codedWords t (cleared t) ws)))) (residualsAt (length ws)) (residuals (codedWords t (cleared t) ws))) 0
+    → sets (sets (sets out 8 (codeBytes (codes (codedWords t (cleared t) ws)))) (residualsAt (length ws)) (allResidualBytes (codedWords t (cleared t) ws))) 0
     (lowBytes 4 (length ws) ++ lowBytes 4 (8 + length (body (codedWords t (cleared t) ws))))
     ≡ over (block t ws) out
 unfolding block body
 put-whole t ws out h =
     let cs = codedWords t (cleared t) ws in
-    put-parts out (lowBytes 4 (length ws) ++ lowBytes 4 (8 + length (body cs))) (codeBytes (codes cs)) (residuals cs) (residualsAt (length ws)) refl
+    put-parts out (lowBytes 4 (length ws) ++ lowBytes 4 (8 + length (body cs))) (codeBytes (codes cs)) (allResidualBytes cs) (residualsAt (length ws)) refl
     (omega (arith, length-code-bytes (codes cs), length-codes cs, length-coded t (cleared t) ws)) h
 
 pub put-block : (t : ℕ) (ws out out₁ out₂ : List ℕ) (end : ℕ) → end ≡ length (block t ws) → worst (length ws) ≤ length out
-    → out₁ ≡ sets (sets out 8 (codeBytes (codes (codedWords t (cleared t) ws)))) (residualsAt (length ws)) (residuals (codedWords t (cleared t) ws))
+    → out₁ ≡ sets (sets out 8 (codeBytes (codes (codedWords t (cleared t) ws)))) (residualsAt (length ws)) (allResidualBytes (codedWords t (cleared t) ws))
     → out₂ ≡ sets out₁ 0 (lowBytes 4 (length ws) ++ lowBytes 4 end)
     → out₂ ≡ over (block t ws) out
 put-block t ws out out₁ out₂ end e h p q =

@@ -10,7 +10,7 @@ use lib.Seq.{sets, drop-cons, length-sets}
 use Rattle.words.specs.Bytes.{lowBytes}
 use Rattle.blocks.specs.Predictors.{Memory, cleared, learn, after}
 use Rattle.blocks.specs.Codes.{written, codedWord, codedWords}
-use Rattle.blocks.specs.Block.{residuals, residualsAt, worst, block}
+use Rattle.blocks.specs.Block.{allResidualBytes, residualsAt, worst, block}
 use Rattle.blocks.specs.Numbers.{tOf}
 use Rattle.blocks.specs.Inside.{memory, Ready, Codes, Room, putWord, Putting, Puts, Packable, PacksAll}
 use Rattle.blocks.specs.declared.Coded.{Coded}
@@ -32,8 +32,8 @@ pub record Going (ws f₀ d₀ out₀ f d out : List ℕ) (at before : ℕ) (c :
   pub to : at ≤ residualsAt (length ws) + 8 * i
   pub state : after (tOf (length f₀)) (memory f d c) (drop i ws) ≡ after (tOf (length f₀)) (cleared (tOf (length f₀))) ws
   pub end :
-      at + length (residuals (codedWords (tOf (length f₀)) (memory f d c) (drop i ws)))
-      ≡ residualsAt (length ws) + length (residuals (codedWords (tOf (length f₀)) (cleared (tOf (length f₀))) ws))
+      at + length (allResidualBytes (codedWords (tOf (length f₀)) (memory f d c) (drop i ws)))
+      ≡ residualsAt (length ws) + length (allResidualBytes (codedWords (tOf (length f₀)) (cleared (tOf (length f₀))) ws))
   pub bytes :
       putAll out i before at (codedWords (tOf (length f₀)) (memory f d c) (drop i ws))
       ≡ putAll out₀ 0 0 (residualsAt (length ws)) (codedWords (tOf (length f₀)) (cleared (tOf (length f₀))) ws)
@@ -52,7 +52,7 @@ going-starts ws f d out p =
       from = omega arith;
       to = omega arith;
       state = ap (λ (m : Memory). after t m ws) e;
-      end = ap (λ (m : Memory). residualsAt (length ws) + length (residuals (codedWords t m ws))) e;
+      end = ap (λ (m : Memory). residualsAt (length ws) + length (allResidualBytes (codedWords t m ws))) e;
       bytes = ap (λ (m : Memory). putAll out 0 0 (residualsAt (length ws)) (codedWords t m ws)) e;
     }
 

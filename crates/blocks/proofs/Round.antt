@@ -14,9 +14,9 @@ use Rattle.words.proofs.Tests.{either}
 use Rattle.words.proofs.Xor.{xor-back, xor-word}
 use Rattle.words.proofs.Bytes.{length-low, number-low}
 use Rattle.words.proofs.Zeros.{zeros-at-most}
-use Rattle.blocks.specs.Predictors.{Memory, cleared, fcmPrediction, dfcmPrediction, stride, learn}
+use Rattle.blocks.specs.Predictors.{Memory, cleared, fcmPrediction, dfcmPrediction, difference, learn}
 use Rattle.blocks.specs.Codes.{fcmResidual, dfcmResidual, dfcmChosen, lowThree, written, codedBy, chosen, codedWord, codedWords, residualBytes, namedPrediction, decodedWord, decodedWords}
-use Rattle.blocks.specs.Block.{codes, codeBytes, residuals, body, block, residualsAt, worst, count, statedLength, halves, countedCodes, lastHalf, cost, withResiduals, wordsIn}
+use Rattle.blocks.specs.Block.{codes, codeBytes, allResidualBytes, body, block, residualsAt, worst, count, statedLength, halves, countedCodes, lastHalf, residualLength, withResiduals, wordsIn}
 use Rattle.blocks.specs.Numbers.{fillerStands, blockNumber}
 use Rattle.blocks.specs.Inside.{PacksAll}
 use Rattle.blocks.specs.declared.Coded.{Coded}
@@ -70,7 +70,7 @@ unfolding cleared
 wide-cleared t = record { fcm = wide-zeros (2 ^ t); dfcm = wide-zeros (2 ^ t); last = omega arith }
 
 wide-learn : (t : ℕ) (m : Memory) (v : ℕ) → Wide m → v < 2 ^ 64 → Wide (learn t m v)
-unfolding learn stride sub64
+unfolding learn difference sub64
 wide-learn t m v w h =
     record { fcm = wide-set (m .fcm) (m .fcmHash) v (w .fcm) h; dfcm = wide-set (m .dfcm) (m .dfcmHash) _ (w .dfcm) (omega arith); last = h }
 
@@ -89,12 +89,12 @@ unfolding residualBytes
 read-back c h = number-low _ _ h
 
 residuals-back : (t : ℕ) (ws : List ℕ) (m : Memory) → Wide m → Words ws
-    → withResiduals (codes (codedWords t m ws)) (residuals (codedWords t m ws)) ≡ codedWords t m ws
+    → withResiduals (codes (codedWords t m ws)) (allResidualBytes (codedWords t m ws)) ≡ codedWords t m ws
 residuals-back t [] m w h = refl
 residuals-back t (v ∷ vs) m w h =
     let c = codedWord m v in
     let k = written (c .code) in
-    let r = residuals (codedWords t (learn t m v) vs) in
+    let r = allResidualBytes (codedWords t (learn t m v) vs) in
     let n : length (residualBytes c) ≡ k = length-residual c in
     let e : number (take k (residualBytes c ++ r)) ≡ c .residual = ap number (take-at (residualBytes c) r k n) ∙ read-back c (residual-fits m v w (h 0)) in
     rw (e, drop-at (residualBytes c) r k n) (ap (λ (l : List Coded). c ∷ l) (residuals-back t vs (learn t m v) (wide-learn t m v w (h 0)) (λ i. h (suc i))))
@@ -121,7 +121,7 @@ filler-back [] rs o = absurd (omega arith)
 filler-back (c ∷ []) rs o = omega arith
 filler-back (c ∷ d ∷ cs) rs o = filler-back cs rs (omega arith)
 
-cost-of : (cs : List Coded) → cost (codes cs) ≡ length (residuals cs)
+cost-of : (cs : List Coded) → residualLength (codes cs) ≡ length (allResidualBytes cs)
 cost-of [] = refl
 cost-of (c ∷ cs) = omega (arith, cost-of cs, length-residuals c cs)
 
@@ -131,7 +131,7 @@ module _ (t : ℕ) (ws : List ℕ) (few : length ws ≤ 65536) where
   abbrev cs : List Coded
   cs = codedWords t (cleared t) ws
 
-  after-head : drop 8 (block t ws) ≡ codeBytes (codes cs) ++ residuals cs
+  after-head : drop 8 (block t ws) ≡ codeBytes (codes cs) ++ allResidualBytes cs
   unfolding block body
   after-head = refl
 
@@ -150,18 +150,18 @@ module _ (t : ℕ) (ws : List ℕ) (few : length ws ≤ 65536) where
 
   block-codes : countedCodes (block t ws) ≡ codes cs
   unfolding countedCodes
-  block-codes = rw (block-count, after-head, ← length-all) (codes-back (codes cs) (residuals cs) (codes-small t ws (cleared t)))
+  block-codes = rw (block-count, after-head, ← length-all) (codes-back (codes cs) (allResidualBytes cs) (codes-small t ws (cleared t)))
 
-  block-residuals : drop (residualsAt (length ws)) (block t ws) ≡ residuals cs
+  block-residuals : drop (residualsAt (length ws)) (block t ws) ≡ allResidualBytes cs
   block-residuals =
       sym (drop-drop ((length ws + 1) / 2) 8 (block t ws))
-      ∙ rw after-head (drop-at (codeBytes (codes cs)) (residuals cs) ((length ws + 1) / 2) (length-code-bytes (codes cs) ∙ ap (λ (k : ℕ). (k + 1) / 2) length-all))
+      ∙ rw after-head (drop-at (codeBytes (codes cs)) (allResidualBytes cs) ((length ws + 1) / 2) (length-code-bytes (codes cs) ∙ ap (λ (k : ℕ). (k + 1) / 2) length-all))
 
   block-filler : fillerStands (block t ws) ≡ true
   unfolding fillerStands lastHalf
   block-filler =
       rw (block-count, after-head, ← length-all)
-      (either (eqb (length (codes cs) % 2) 1) (λ e. rw (e, filler-back (codes cs) (residuals cs) (eqb-true _ _ e))) (λ e. rw e))
+      (either (eqb (length (codes cs) % 2) 1) (λ e. rw (e, filler-back (codes cs) (allResidualBytes cs) (eqb-true _ _ e))) (λ e. rw e))
 
   -- it is whole
   pub block-whole : blockNumber (block t ws) ≡ 0

@@ -9,9 +9,9 @@ use lib.Dec.{leb, eqb}
 use lib.Pow.{pow-mono, pow-pos, shl-exact}
 use borrow.Author.Tests.{leb-true, eqb-true, le-leb, eq-eqb, lt-leb}
 use Rattle.words.proofs.Tests.{either}
-use Rattle.blocks.specs.Numbers.{tOf, isTableLength, check, firstFailure, tablesNumber}
+use Rattle.blocks.specs.Numbers.{tOf, isTableLength, unless, firstFailure, tablesNumber}
 use Rattle.blocks.specs.Inside.{Sized}
-use Rattle.blocks.proofs.Checks.{check-passes, check-holds, all-pass, fails-later, none-fails}
+use Rattle.blocks.proofs.Checks.{unless-passes, unless-holds, all-pass, fails-later, none-fails}
 
 zeros-below : (k t : ℕ) → t < k → trailingZeros k (2 ^ t) ≡ t
 unfolding trailingZeros
@@ -61,15 +61,15 @@ pub tables-sized : (f d : ℕ) → tablesNumber f d ≡ 0 → Sized f d
 unfolding tablesNumber isTableLength
 tables-sized f d e =
     let a = none-fails _ _ e in
-    let l = both-true (leb (tOf f) 16) (eqb f (2 ^ tOf f)) (check-holds _ _ (none-fails _ _ (a .1) .0) (omega arith)) in
+    let l = both-true (leb (tOf f) 16) (eqb f (2 ^ tOf f)) (unless-holds _ _ (none-fails _ _ (a .1) .0) (omega arith)) in
     record {
       small = leb-true _ _ (l .0);
       power = eqb-true _ _ (l .1);
-      same = sym (eqb-true f d (check-holds _ _ (a .0) (omega arith)));
+      same = sym (eqb-true f d (unless-holds _ _ (a .0) (omega arith)));
     }
 
 pub sized-tables : (f d : ℕ) → Sized f d → 0 ≡ tablesNumber f d
 unfolding tablesNumber isTableLength
 sized-tables f d s =
-    fails-later _ _ _ (check-passes _ _ (eq-eqb f d (sym (s .same))))
-    (fails-later _ _ _ (check-passes _ _ (rw (le-leb (tOf f) 16 (s .small), eq-eqb f (2 ^ tOf f) (s .power)))) all-pass)
+    fails-later _ _ _ (unless-passes _ _ (eq-eqb f d (sym (s .same))))
+    (fails-later _ _ _ (unless-passes _ _ (rw (le-leb (tOf f) 16 (s .small), eq-eqb f (2 ^ tOf f) (s .power)))) all-pass)

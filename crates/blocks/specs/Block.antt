@@ -19,13 +19,13 @@ codeBytes (c ∷ []) = (c * 16 + 7) ∷ []
 codeBytes (c ∷ d ∷ cs) = (c * 16 + d) ∷ codeBytes cs
 
 -- the residual bytes of coded words
-abbrev pub residuals : List Coded → List ℕ
-residuals [] = []
-residuals (c ∷ cs) = residualBytes c ++ residuals cs
+abbrev pub allResidualBytes : List Coded → List ℕ
+allResidualBytes [] = []
+allResidualBytes (c ∷ cs) = residualBytes c ++ allResidualBytes cs
 
 -- all codes, then all residual bytes
 unfoldable pub body : List Coded → List ℕ
-body cs = codeBytes (codes cs) ++ residuals cs
+body cs = codeBytes (codes cs) ++ allResidualBytes cs
 
 -- the block of the words ws, with tables of 2 ^ t words: count (4 bytes), length of the whole block (4), codes, residual bytes
 unfoldable pub block : ℕ → List ℕ → List ℕ
@@ -54,7 +54,7 @@ abbrev pub halves : List ℕ → List ℕ
 halves [] = []
 halves (b ∷ bs) = b / 16 ∷ b % 16 ∷ halves bs
 
--- the counted codes
+-- the counted codes, or those that are there where the block is too short for them
 unfoldable pub countedCodes : List ℕ → List ℕ
 countedCodes b = take (count b) (halves (drop 8 b))
 
@@ -62,10 +62,10 @@ countedCodes b = take (count b) (halves (drop 8 b))
 unfoldable pub lastHalf : List ℕ → ℕ
 lastHalf b = getD (halves (drop 8 b)) (count b) 0
 
--- how many residual bytes codes have
-abbrev pub cost : List ℕ → ℕ
-cost [] = 0
-cost (c ∷ cs) = written c + cost cs
+-- how many residual bytes codes have, all together
+abbrev pub residualLength : List ℕ → ℕ
+residualLength [] = 0
+residualLength (c ∷ cs) = written c + residualLength cs
 
 -- codes with their residuals, taken one after another from the residual bytes
 abbrev pub withResiduals : List ℕ → List ℕ → List Coded

@@ -8,7 +8,7 @@ use lib.ListN.{length, set, replicate}
 use lib.Seq.{sets}
 use Rattle.blocks.specs.Predictors.{Memory, cleared, learn, after}
 use Rattle.blocks.specs.Codes.{codedWord, codedWords, decodedWord, residualBytes}
-use Rattle.blocks.specs.Block.{codes, codeBytes, residuals, residualsAt, worst, block, wordsIn}
+use Rattle.blocks.specs.Block.{codes, codeBytes, allResidualBytes, residualsAt, worst, block, wordsIn}
 use Rattle.blocks.specs.Block as Block
 use Rattle.blocks.specs.Numbers.{tOf, over, blockNumber}
 use Rattle.blocks.specs.declared.predict.Carry.{Carry}
@@ -85,8 +85,8 @@ pub record Putting (words f d out : List ℕ) : Type 0 where
 pub record Puts (t : ℕ) (words out f' d' out' : List ℕ) (e : ℕ) : Type 0 where
   pub fcm : f' ≡ after t (cleared t) words .fcm
   pub dfcm : d' ≡ after t (cleared t) words .dfcm
-  pub bytes : out' ≡ sets (sets out 8 (codeBytes (codes (codedWords t (cleared t) words)))) (residualsAt (length words)) (residuals (codedWords t (cleared t) words))
-  pub end : e ≡ residualsAt (length words) + length (residuals (codedWords t (cleared t) words))
+  pub bytes : out' ≡ sets (sets out 8 (codeBytes (codes (codedWords t (cleared t) words)))) (residualsAt (length words)) (allResidualBytes (codedWords t (cleared t) words))
+  pub end : e ≡ residualsAt (length words) + length (allResidualBytes (codedWords t (cleared t) words))
 
 -- words are packed
 pub record PacksAll (t : ℕ) (words old f' d' out' : List ℕ) (k : ℕ) : Type 0 where

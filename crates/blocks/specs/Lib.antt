@@ -1,6 +1,7 @@
 pub mod Predictors
 pub mod Codes
 pub mod Block
+pub mod Room
 pub mod Numbers
 pub mod Calls
 pub mod Worked

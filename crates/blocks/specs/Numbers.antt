@@ -5,11 +5,11 @@ use mathlib.Core.Bool.{Bool, true, cond, _&&_}
 use lib.Count.{trailingZeros}
 use lib.Dec.{leb, eqb}
 use lib.ListN.{length, drop}
-use Rattle.blocks.specs.Block.{count, statedLength, residualsAt, countedCodes, lastHalf, cost, worst}
+use Rattle.blocks.specs.Block.{count, statedLength, residualsAt, countedCodes, lastHalf, residualLength, worst}
 
--- a check: 0 where the test holds, its number where it fails
-unfoldable pub check : Bool → ℕ → ℕ
-check test k = cond test 0 k
+-- a check: unless the test holds, its number; else 0
+unfoldable pub unless : Bool → ℕ → ℕ
+unless test k = cond test 0 k
 
 -- the first failure answers: the first number of the list that isn't 0, or 0
 unfoldable pub firstFailure : List ℕ → ℕ
@@ -17,10 +17,10 @@ firstFailure [] = 0
 firstFailure (zero ∷ ks) = firstFailure ks
 firstFailure (suc k ∷ ks) = suc k
 
--- what is left where the number k is answered: the new where k is 0, done; the old where k is a refusal
-unfoldable pub left {ℓ} : {A : Type ℓ} → ℕ → A → A → A
-left zero new old = new
-left (suc k) new old = old
+-- what there is afterwards, where the number k is answered: the new where k is 0, done; the old where k is a refusal
+unfoldable pub afterwards {ℓ} : {A : Type ℓ} → ℕ → A → A → A
+afterwards zero new old = new
+afterwards (suc k) new old = old
 
 -- a lent output after success: its result first and its old content beyond
 abbrev pub over : List ℕ → List ℕ → List ℕ
@@ -34,43 +34,43 @@ tOf n = trailingZeros 64 n
 unfoldable pub isTableLength : ℕ → Bool
 isTableLength n = leb (tOf n) 16 && eqb n (2 ^ tOf n)
 
--- tables of f and d words
+-- the number for tables of f and d words: 1
 unfoldable pub tablesNumber : ℕ → ℕ → ℕ
 tablesNumber f d =
     firstFailure
-    (check (eqb f d) 1
-    ∷ check (isTableLength f) 1
+    (unless (eqb f d) 1
+    ∷ unless (isTableLength f) 1
     ∷ [])
 
--- pack n words, with tables of f and d words, into room for some bytes
+-- the number for packing n words, with tables of f and d words, into room for some bytes: 1, 2, 3
 unfoldable pub packNumber : ℕ → ℕ → ℕ → ℕ → ℕ
 packNumber n f d room =
     firstFailure
     (tablesNumber f d
-    ∷ check (leb n 65536) 2
-    ∷ check (leb (worst n) room) 3
+    ∷ unless (leb n 65536) 2
+    ∷ unless (leb (worst n) room) 3
     ∷ [])
 
 -- an odd count has 7 as the last low half
 unfoldable pub fillerStands : List ℕ → Bool
 fillerStands b = cond (eqb (count b % 2) 1) (eqb (lastHalf b) 7) true
 
--- check the block b
+-- the number for checking the block b: 4, 2, 5, 6
 unfoldable pub blockNumber : List ℕ → ℕ
 blockNumber b =
     firstFailure
-    (check (leb 8 (length b)) 4
-    ∷ check (leb (count b) 65536) 2
-    ∷ check (eqb (statedLength b) (length b)) 5
-    ∷ check (eqb (statedLength b) (residualsAt (count b) + cost (countedCodes b))) 5
-    ∷ check (fillerStands b) 6
+    (unless (leb 8 (length b)) 4
+    ∷ unless (leb (count b) 65536) 2
+    ∷ unless (eqb (statedLength b) (length b)) 5
+    ∷ unless (eqb (statedLength b) (residualsAt (count b) + residualLength (countedCodes b))) 5
+    ∷ unless (fillerStands b) 6
     ∷ [])
 
--- unpack the block b, with tables of f and d words, into room for some words
+-- the number for unpacking the block b, with tables of f and d words, into room for some words: 1, then check's, then 3
 unfoldable pub unpackNumber : List ℕ → ℕ → ℕ → ℕ → ℕ
 unpackNumber b f d room =
     firstFailure
     (tablesNumber f d
     ∷ blockNumber b
-    ∷ check (leb (count b) room) 3
+    ∷ unless (leb (count b) room) 3
     ∷ [])

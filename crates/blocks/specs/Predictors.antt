@@ -28,9 +28,9 @@ nextFcmHash t h v = lowBits t (xor (shiftedLeft 6 h) (shiftedRight 48 v))
 unfoldable pub dfcmPrediction : Memory → ℕ
 dfcmPrediction m = add64 (getD (m .dfcm) (m .dfcmHash) 0) (m .last)
 
--- d: v minus the last word
-unfoldable pub stride : Memory → ℕ → ℕ
-stride m v = sub64 v (m .last)
+-- the difference d: v minus the last word
+unfoldable pub difference : Memory → ℕ → ℕ
+difference m v = sub64 v (m .last)
 
 -- the new dfcm hash: (old hash shifted left by 2) xor (d shifted right by 40), reduced to its low t bits
 unfoldable pub nextDfcmHash : ℕ → ℕ → ℕ → ℕ
@@ -41,9 +41,9 @@ unfoldable pub learn : ℕ → Memory → ℕ → Memory
 learn t m v =
     record {
       fcm = set (m .fcm) (m .fcmHash) v;
-      dfcm = set (m .dfcm) (m .dfcmHash) (stride m v);
+      dfcm = set (m .dfcm) (m .dfcmHash) (difference m v);
       fcmHash = nextFcmHash t (m .fcmHash) v;
-      dfcmHash = nextDfcmHash t (m .dfcmHash) (stride m v);
+      dfcmHash = nextDfcmHash t (m .dfcmHash) (difference m v);
       last = v;
     }
 

@@ -6,10 +6,10 @@ ghost use Rattle.blocks.specs.Codes.{dfcmChosen, lowThree, written, code
 use crate::Coded;
 
 // Whether the residual by dfcm is chosen.
-fn dfcm_chosen(fcm: u64, dfcm: u64) -> bool
-    ensures { λ r. ⌜ r ≡ dfcmChosen fcm dfcm ⌝ }
+fn dfcm_chosen(by_fcm: u64, by_dfcm: u64) -> bool
+    ensures { λ r. ⌜ r ≡ dfcmChosen «by_fcm» «by_dfcm» ⌝ }
 {
-    words::zero_bytes(fcm) < words::zero_bytes(dfcm)
+    words::zero_bytes(by_fcm) < words::zero_bytes(by_dfcm)
 }
 
 // The top bit of a code.
@@ -50,12 +50,12 @@ fn coded_by(dfcm: bool, residual: u64) -> Coded
 }
 
 // Of two residuals, the chosen one with its code.
-pub fn chosen(fcm: u64, dfcm: u64) -> Coded
-    ensures { λ r. ⌜ r ≡ chosen fcm dfcm ⌝ }
+pub fn chosen(by_fcm: u64, by_dfcm: u64) -> Coded
+    ensures { λ r. ⌜ r ≡ chosen «by_fcm» «by_dfcm» ⌝ }
 {
-    if dfcm_chosen(fcm, dfcm) {
-        coded_by(true, dfcm)
+    if dfcm_chosen(by_fcm, by_dfcm) {
+        coded_by(true, by_dfcm)
     } else {
-        coded_by(false, fcm)
+        coded_by(false, by_fcm)
     }
 }

@@ -7,7 +7,9 @@ mod reading;
 
 pub use packing::pack;
 pub use packing::pack_all;
+pub use reading::block_number;
 pub use reading::check;
+pub use reading::count;
 pub use reading::unpack;
 pub use reading::unpack_all;
 

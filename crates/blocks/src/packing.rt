@@ -114,9 +114,12 @@ pub fn pack_all(words: &[u64], fcm: &mut [u64], dfcm: &mut [u64], out: &mut [u8]
 pub fn pack(words: &[u64], fcm: &mut [u64], dfcm: &mut [u64], out: &mut [u8]) -> Packed
     ensures { λ r. ⌜ Packs (now (words .entry)) (now (fcm .entry)) (now (dfcm .entry)) (now (out .entry)) r (now (fcm .exit)) (now (dfcm .exit)) (now (out .exit)) ⌝ }
 {
-    let number = numbers::pack_number(words.len(), fcm.len(), dfcm.len(), out.len());
-    if number != 0 {
-        return Packed { number, length: 0 };
+    let refusal = numbers::pack_number(words.len(), fcm.len(), dfcm.len(), out.len());
+    if refusal != 0 {
+        return Packed {
+            number: refusal,
+            length: 0,
+        };
     }
     let length = pack_all(words, fcm, dfcm, out);
     Packed { number: 0, length }

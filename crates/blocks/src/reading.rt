@@ -2,7 +2,7 @@
 ghost use mathlib.Core.Path.{_≡_};
 ghost use Prim.Native.Nat.{_+_, _/_, _≤_, _<_};
 ghost use lib.ListN.{length, getD, drop};
-ghost use Rattle.blocks.specs.Block.{count, halves, countedCodes, residualsAt, cost};
+ghost use Rattle.blocks.specs.Block.{count, halves, countedCodes, residualsAt, residualLength};
 ghost use Rattle.blocks.specs.Codes.{namedPrediction};
 ghost use Rattle.blocks.specs.Numbers.{tOf, fillerStands, blockNumber, unpackNumber};
 ghost use Rattle.blocks.specs.Calls.{checked, Unpacks};
@@ -40,9 +40,9 @@ fn half(block: &[u8], i: usize) -> u8
 }
 
 // How many residual bytes the counted codes have.
-fn residual_bytes(block: &[u8], codes: usize) -> usize
+fn residual_length(block: &[u8], codes: usize) -> usize
     requires { ⌜ Counted (now block) codes ⌝ }
-    ensures { λ r. ⌜ r ≡ cost (countedCodes (now (block .entry))) ⌝ }
+    ensures { λ r. ⌜ r ≡ residualLength (countedCodes (now (block .entry))) ⌝ }
 {
     let mut sum = 0;
     let mut i = 0;
@@ -84,7 +84,7 @@ pub fn block_number(block: &[u8]) -> u32
     if length < start {
         return 5;
     }
-    if length != start + residual_bytes(block, n) {
+    if length != start + residual_length(block, n) {
         return 5;
     }
     if !filler_stands(block, n) {
@@ -189,9 +189,12 @@ pub fn unpack_all(block: &[u8], fcm: &mut [u64], dfcm: &mut [u64], words: &mut [
 pub fn unpack(block: &[u8], fcm: &mut [u64], dfcm: &mut [u64], words: &mut [u64]) -> Unpacked
     ensures { λ r. ⌜ Unpacks (now (block .entry)) (now (fcm .entry)) (now (dfcm .entry)) (now (words .entry)) r (now (fcm .exit)) (now (dfcm .exit)) (now (words .exit)) ⌝ }
 {
-    let number = unpack_number(block, fcm.len(), dfcm.len(), words.len());
-    if number != 0 {
-        return Unpacked { number, count: 0 };
+    let refusal = unpack_number(block, fcm.len(), dfcm.len(), words.len());
+    if refusal != 0 {
+        return Unpacked {
+            number: refusal,
+            count: 0,
+        };
     }
     let count = unpack_all(block, fcm, dfcm, words);
     Unpacked { number: 0, count }

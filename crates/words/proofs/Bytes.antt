@@ -5,7 +5,7 @@ use Prim.Native.Nat.{ℕ, zero, suc, _+_, _-_, _*_, _/_, _%_, _^_, _≤_, _<_}
 use native.Mathlib.Omega.{arith}
 use native.Mathlib.Nat.{pow-suc, div-lt-iff-lt-mul}
 use lib.ListN.{length, getD, take, drop}
-use lib.Seq.{drop-cons}
+use lib.Seq.{drop-cons, getD-drop}
 use Rattle.words.specs.Bytes.{lowBytes, number, field}
 use Rattle.words.proofs.Zeros.{pow-256-le}
 
@@ -61,3 +61,7 @@ reading-all bs at k j x h g =
     let e : k - j ≡ k = omega arith in
     let f : at + j ≡ at = omega arith in
     rw (e, f) at (g .is)
+
+-- a field of k bytes is below 256 ^ k
+pub field-below : (k at : ℕ) (bs : List ℕ) → ((i : ℕ) → getD bs i 0 < 256) → field k at bs < 256 ^ k
+field-below k at bs h = number-below k (drop at bs) (λ i. rw (getD-drop at bs i 0) (h (at + i)))

@@ -1,6 +1,8 @@
 -- Bytes, the least significant first.
 use Prim.Native.Nat.{ℕ, zero, suc, _+_, _*_, _/_, _%_}
 use mathlib.Core.List.{List, [], _∷_}
+use mathlib.Core.Bool.{Bool, true, false, _&&_}
+use lib.Dec.{eqb}
 use lib.ListN.{take, drop}
 
 -- the k low bytes of x, low byte first
@@ -16,3 +18,10 @@ number (b ∷ bs) = b + 256 * number bs
 -- the number in a field of k bytes that starts at a place
 abbrev pub field : ℕ → ℕ → List ℕ → ℕ
 field k at bs = number (take k (drop at bs))
+
+-- whether two lists have the same bytes
+abbrev pub sameBytes : List ℕ → List ℕ → Bool
+sameBytes [] [] = true
+sameBytes [] (b ∷ bs) = false
+sameBytes (a ∷ xs) [] = false
+sameBytes (a ∷ xs) (b ∷ bs) = eqb a b && sameBytes xs bs

@@ -5,7 +5,7 @@ use lib.Bits.{bitXor}
 use lib.Count.{leadingZeros}
 use lib.ListN.{getD}
 
--- every number of the list is a word: it has 64 bits
+-- every number of the list is a word: it fits in 64 bits
 abbrev pub Words : List ℕ → Type 0
 Words ws = (i : ℕ) → getD ws i 0 < 2 ^ 64
 

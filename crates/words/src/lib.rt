@@ -2,10 +2,10 @@
 // that calls it; the calls of the store itself, in `blocks`, have none.
 ghost use mathlib.Core.Path.{_≡_};
 ghost use Prim.Native.Nat.{_+_, _≤_, _<_};
-ghost use lib.ListN.{length, replicate};
+ghost use lib.ListN.{length, replicate, take, drop};
 ghost use lib.Seq.{sets};
 ghost use Rattle.words.specs.Words.{sub64, zeroBytes};
-ghost use Rattle.words.specs.Bytes.{lowBytes, field};
+ghost use Rattle.words.specs.Bytes.{lowBytes, field, sameBytes};
 
 // The leading zero bytes of a word.
 pub fn zero_bytes(r: u64) -> u8
@@ -81,4 +81,46 @@ pub fn get_bytes(src: &[u8], at: usize, k: usize) -> u64
         x = x * 256 + wide(src[at + j]);
     }
     x
+}
+
+// Whether two slices hold the same bytes.
+pub fn same(a: &[u8], b: &[u8]) -> bool
+    ensures { λ r. ⌜ r ≡ sameBytes (now (a .entry)) (now (b .entry)) ⌝ }
+{
+    if a.len() != b.len() {
+        return false;
+    }
+    let mut i = 0;
+    while i < a.len() {
+        if a[i] != b[i] {
+            return false;
+        }
+        i += 1;
+    }
+    true
+}
+
+// Copies the bytes of src to a place of out.
+pub fn copy_in(out: &mut [u8], at: usize, src: &[u8])
+    requires { ⌜ at + length (now src) ≤ length (now out) ⌝ }
+    ensures { λ _. ⌜ now (out .exit) ≡ sets (now (out .entry)) at (now (src .entry)) ⌝ }
+{
+    let mut j = 0;
+    while j < src.len() {
+        out[at + j] = src[j];
+        j += 1;
+    }
+}
+
+// Moves n bytes up inside a buffer, the last byte first, so that no byte is lost where the two
+// places overlap.
+pub fn move_up(buffer: &mut [u8], from: usize, to: usize, n: usize)
+    requires { ⌜ (from ≤ to) × (to + n ≤ length (now buffer)) ⌝ }
+    ensures { λ _. ⌜ now (buffer .exit) ≡ sets (now (buffer .entry)) to (take n (drop from (now (buffer .entry)))) ⌝ }
+{
+    let mut j = n;
+    while 0 < j {
+        j -= 1;
+        buffer[to + j] = buffer[from + j];
+    }
 }

@@ -1,4 +1,4 @@
-// Printing what came out.
+// Printing what went in and what came out. Words and bytes are in hex, all other numbers in decimal.
 use libc::STDOUT_FILENO;
 
 pub fn text(bytes: &[u8]) {
@@ -7,6 +7,12 @@ pub fn text(bytes: &[u8]) {
 
 pub fn number(n: u64) {
     io::print_decimal(STDOUT_FILENO, n);
+}
+
+// A label and a number.
+pub fn labelled(label: &[u8], n: u64) {
+    text(label);
+    number(n);
 }
 
 // A number in hex after a space, with at least so many digits.
@@ -37,7 +43,7 @@ fn wide(b: u8) -> u64 {
     b as u64
 }
 
-// Bytes in hex.
+// Each byte.
 pub fn bytes(bytes: &[u8]) {
     let mut i = 0;
     while i < bytes.len() {
@@ -46,11 +52,39 @@ pub fn bytes(bytes: &[u8]) {
     }
 }
 
-// Words in hex.
+// Each word.
 pub fn words(words: &[u64]) {
     let mut i = 0;
     while i < words.len() {
         hex(words[i], 1);
         i += 1;
     }
+}
+
+// Each word where there are few, else how many there are.
+pub fn few_words(list: &[u64]) {
+    if list.len() == 0 {
+        text(b" no words");
+        return;
+    }
+    if list.len() <= 8 {
+        words(list);
+        return;
+    }
+    labelled(b" ", list.len() as u64);
+    text(b" words");
+}
+
+// Each byte where there are few, else how many there are.
+pub fn few_bytes(list: &[u8]) {
+    if list.len() == 0 {
+        text(b" no bytes");
+        return;
+    }
+    if list.len() <= 16 {
+        bytes(list);
+        return;
+    }
+    labelled(b" ", list.len() as u64);
+    text(b" bytes");
 }

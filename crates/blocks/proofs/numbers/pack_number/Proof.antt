@@ -3,7 +3,7 @@ use native.Mathlib.Omega.{arith}
 use borrow.Author.Needs.{needs}
 use borrow.Author.Tests.{le-leb, lt-leb}
 use Rattle.blocks.specs.Numbers.{packNumber}
-use Rattle.blocks.proofs.Checks.{check-passes, check-fails, all-pass, fails-here, fails-later}
+use Rattle.blocks.proofs.Checks.{unless-passes, unless-fails, all-pass, fails-here, fails-later}
 use Rattle.blocks.proofs.numbers.pack_number.Statement.{statement}
 use Rattle.blocks.proofs.numbers.pack_number.Tie as tie
 
@@ -18,7 +18,7 @@ returns-2 : tie.Need-returns-2
 unfolding packNumber
 returns-2 c =
     fails-later _ _ _ (sym (c .before .before .tables-number .ensures) ∙ c .before .if1 .left)
-    (fails-here _ _ _ (check-fails _ _ (lt-leb _ _ (c .if2 .taken))) (λ e. omega arith))
+    (fails-here _ _ _ (unless-fails _ _ (lt-leb _ _ (c .if2 .taken))) (λ e. omega arith))
 
 add-if3 : tie.Need-add-if3
 add-if3 c = search needs
@@ -36,15 +36,15 @@ returns-3 : tie.Need-returns-3
 unfolding packNumber
 returns-3 c =
     fails-later _ _ _ (sym (c .before .before .before .tables-number .ensures) ∙ c .before .before .if1 .left)
-    (fails-later _ _ _ (check-passes _ _ (le-leb _ _ (c .before .if2 .left)))
-    (fails-here _ _ _ (check-fails _ _ (lt-leb _ _ (c .if3 .taken))) (λ e. omega arith)))
+    (fails-later _ _ _ (unless-passes _ _ (le-leb _ _ (c .before .if2 .left)))
+    (fails-here _ _ _ (unless-fails _ _ (lt-leb _ _ (c .if3 .taken))) (λ e. omega arith)))
 
 returns-4 : tie.Need-returns-4
 unfolding packNumber
 returns-4 c =
     fails-later _ _ _ (sym (c .before .before .before .tables-number .ensures) ∙ c .before .before .if1 .left)
-    (fails-later _ _ _ (check-passes _ _ (le-leb _ _ (c .before .if2 .left)))
-    (fails-later _ _ _ (check-passes _ _ (le-leb _ _ (c .if3 .left))) all-pass))
+    (fails-later _ _ _ (unless-passes _ _ (le-leb _ _ (c .before .if2 .left)))
+    (fails-later _ _ _ (unless-passes _ _ (le-leb _ _ (c .if3 .left))) all-pass))
 
 pub pack-number-spec : {M : Type 1} → statement M
 pack-number-spec =

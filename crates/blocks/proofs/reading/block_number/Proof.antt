@@ -45,8 +45,8 @@ returns-4 c =
     let at-if1 = at-count .before in
     uneven _ _ (at-if1 .if1 .left) (at-count .count .ensures) (at-if2 .if2 .left) _ (at-get-bytes .get-bytes .ensures) (at-if3 .if3 .left) (λ e. omega arith)
 
-residual-bytes-requires : tie.Need-residual-bytes-requires
-residual-bytes-requires c κs =
+residual-length-requires : tie.Need-residual-length-requires
+residual-length-requires c κs =
     let at-if2 = c .before .before .before in
     let at-count = at-if2 .before in
     record { count = at-count .count .ensures; few = at-if2 .if2 .left; codes = c .if4 .left }
@@ -59,20 +59,20 @@ add-if5 c =
     let block = at-count .before .before .before .args .block .now in
     omega (
       arith,
-      c .residual-bytes .ensures,
+      c .residual-length .ensures,
       at-if2 .if2 .left,
       counted-cost block (at-count .count .result) (record { count = at-count .count .ensures; few = at-if2 .if2 .left; codes = at-if4 .if4 .left }),
     )
 
 returns-5 : tie.Need-returns-5
 returns-5 c =
-    let at-residual-bytes = c .before in
-    let at-if3 = at-residual-bytes .before .before in
+    let at-residual-length = c .before in
+    let at-if3 = at-residual-length .before .before in
     let at-get-bytes = at-if3 .before in
     let at-if2 = at-get-bytes .before in
     let at-count = at-if2 .before in
     let at-if1 = at-count .before in
-    uneven _ _ (at-if1 .if1 .left) (at-count .count .ensures) (at-if2 .if2 .left) _ (at-get-bytes .get-bytes .ensures) (at-if3 .if3 .left) (λ e. omega (arith, at-residual-bytes .residual-bytes .ensures, c .if5 .taken))
+    uneven _ _ (at-if1 .if1 .left) (at-count .count .ensures) (at-if2 .if2 .left) _ (at-get-bytes .get-bytes .ensures) (at-if3 .if3 .left) (λ e. omega (arith, at-residual-length .residual-length .ensures, c .if5 .taken))
 
 filler-stands-requires : tie.Need-filler-stands-requires
 filler-stands-requires c κs =
@@ -85,27 +85,27 @@ returns-6 : tie.Need-returns-6
 returns-6 c =
     let at-filler-stands = c .before in
     let at-if5 = at-filler-stands .before in
-    let at-residual-bytes = at-if5 .before in
-    let at-if3 = at-residual-bytes .before .before in
+    let at-residual-length = at-if5 .before in
+    let at-if3 = at-residual-length .before .before in
     let at-get-bytes = at-if3 .before in
     let at-if2 = at-get-bytes .before in
     let at-count = at-if2 .before in
     let at-if1 = at-count .before in
     unfilled _ _ (at-if1 .if1 .left) (at-count .count .ensures) (at-if2 .if2 .left) _ (at-get-bytes .get-bytes .ensures) (at-if3 .if3 .left)
-    (omega (arith, at-residual-bytes .residual-bytes .ensures, at-if5 .if5 .left)) (sym (at-filler-stands .filler-stands .ensures) ∙ not-true _ (c .if6 .taken))
+    (omega (arith, at-residual-length .residual-length .ensures, at-if5 .if5 .left)) (sym (at-filler-stands .filler-stands .ensures) ∙ not-true _ (c .if6 .taken))
 
 returns-7 : tie.Need-returns-7
 returns-7 c =
     let at-filler-stands = c .before in
     let at-if5 = at-filler-stands .before in
-    let at-residual-bytes = at-if5 .before in
-    let at-if3 = at-residual-bytes .before .before in
+    let at-residual-length = at-if5 .before in
+    let at-if3 = at-residual-length .before .before in
     let at-get-bytes = at-if3 .before in
     let at-if2 = at-get-bytes .before in
     let at-count = at-if2 .before in
     let at-if1 = at-count .before in
     fine _ _ (at-if1 .if1 .left) (at-count .count .ensures) (at-if2 .if2 .left) _ (at-get-bytes .get-bytes .ensures) (at-if3 .if3 .left)
-    (omega (arith, at-residual-bytes .residual-bytes .ensures, at-if5 .if5 .left)) (sym (at-filler-stands .filler-stands .ensures) ∙ not-false _ (c .if6 .left))
+    (omega (arith, at-residual-length .residual-length .ensures, at-if5 .if5 .left)) (sym (at-filler-stands .filler-stands .ensures) ∙ not-false _ (c .if6 .left))
 
 pub block-number-spec : {M : Type 1} → statement M
 block-number-spec =
@@ -119,7 +119,7 @@ block-number-spec =
     add-start
     add-start-2
     returns-4
-    residual-bytes-requires
+    residual-length-requires
     add-if5
     returns-5
     filler-stands-requires

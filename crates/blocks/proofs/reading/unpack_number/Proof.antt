@@ -4,7 +4,7 @@ use borrow.Author.Tests.{le-leb, lt-leb}
 use Rattle.blocks.specs.Numbers.{unpackNumber}
 use Rattle.blocks.specs.Block.{count}
 use Rattle.blocks.proofs.Accept.{whole}
-use Rattle.blocks.proofs.Checks.{check-passes, check-fails, all-pass, fails-here, fails-later}
+use Rattle.blocks.proofs.Checks.{unless-passes, unless-fails, all-pass, fails-here, fails-later}
 use borrow.Author.Needs.{needs}
 use Rattle.blocks.proofs.reading.unpack_number.Statement.{statement}
 use Rattle.blocks.proofs.reading.unpack_number.Tie as tie
@@ -46,7 +46,7 @@ returns-3 c =
     let entry = at-tables-number .before .before in
     fails-later _ _ _ (sym (at-tables-number .tables-number .ensures) ∙ at-if1 .if1 .left)
     (fails-later _ _ _ (sym (at-block-number .block-number .ensures) ∙ at-if2 .if2 .left)
-    (fails-here _ _ _ (check-fails _ _ (lt-leb (count (entry .args .block .now)) (entry .args .room) (omega (arith, at-count .count .ensures, c .if3 .taken)))) (λ e. omega arith)))
+    (fails-here _ _ _ (unless-fails _ _ (lt-leb (count (entry .args .block .now)) (entry .args .room) (omega (arith, at-count .count .ensures, c .if3 .taken)))) (λ e. omega arith)))
 
 returns-4 : tie.Need-returns-4
 unfolding unpackNumber
@@ -59,7 +59,7 @@ returns-4 c =
     let entry = at-tables-number .before .before in
     fails-later _ _ _ (sym (at-tables-number .tables-number .ensures) ∙ at-if1 .if1 .left)
     (fails-later _ _ _ (sym (at-block-number .block-number .ensures) ∙ at-if2 .if2 .left)
-    (fails-later _ _ _ (check-passes _ _ (le-leb (count (entry .args .block .now)) (entry .args .room) (omega (arith, at-count .count .ensures, c .if3 .left)))) all-pass))
+    (fails-later _ _ _ (unless-passes _ _ (le-leb (count (entry .args .block .now)) (entry .args .room) (omega (arith, at-count .count .ensures, c .if3 .left)))) all-pass))
 
 pub unpack-number-spec : {M : Type 1} → statement M
 unpack-number-spec =

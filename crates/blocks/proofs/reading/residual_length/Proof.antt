@@ -3,8 +3,8 @@ use native.Mathlib.Omega.{arith}
 use borrow.Author.Needs.{needs}
 use Rattle.blocks.proofs.Codes.{written-small}
 use Rattle.blocks.proofs.Get.{Adding, adding-starts, adding-on, adding-ends}
-use Rattle.blocks.proofs.reading.residual_bytes.Statement.{statement}
-use Rattle.blocks.proofs.reading.residual_bytes.Tie as tie
+use Rattle.blocks.proofs.reading.residual_length.Statement.{statement}
+use Rattle.blocks.proofs.reading.residual_length.Tie as tie
 
 abbrev Inv-loop : tie.InvT-loop
 Inv-loop block n sum₀ i₀ sum i = Adding block n sum i
@@ -46,8 +46,8 @@ returns c =
     let entry = at-loop .before .before in
     adding-ends _ _ _ _ (entry .pre) (c .loop-test .left) (at-loop .loop .inv)
 
-pub residual-bytes-spec : {M : Type 1} → statement M
-residual-bytes-spec =
+pub residual-length-spec : {M : Type 1} → statement M
+residual-length-spec =
     tie.close
     (tie.spec
     Inv-loop

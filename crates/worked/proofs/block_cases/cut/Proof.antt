@@ -1,8 +1,8 @@
 use Prim.Native.Nat.{_-_, _≤_}
 use lib.ListN.{length}
 use borrow.Author.Needs.{needs}
-use Rattle.worked.proofs.cut.Statement.{statement}
-use Rattle.worked.proofs.cut.Tie as tie
+use Rattle.worked.proofs.block_cases.cut.Statement.{statement}
+use Rattle.worked.proofs.block_cases.cut.Tie as tie
 
 abbrev Inv-loop : tie.InvT-loop
 Inv-loop block k₀ k = k ≤ length block

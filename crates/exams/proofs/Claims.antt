@@ -1,0 +1,219 @@
+-- What is promised of create, open, find, fetch and append, each promise with one line of plain words.
+use mathlib.Core.Path.{_≡_, refl, sym, ap, _∙_, subst}
+use mathlib.Core.Logic.{_↔_}
+use mathlib.Core.List.{List, [], _∷_, _++_}
+use Prim.Native.Nat.{ℕ, zero, suc, min, _+_, _*_, _^_, _≤_, _<_}
+use native.Mathlib.Omega.{arith}
+use lib.ListN.{length, getD, take, List·getD-append}
+use lib.Seq.{take-take}
+use borrow.Author.Tests.{leb-true, ltb-true, eqb-true, le-leb, lt-ltb, eq-eqb}
+use Rattle.words.specs.Words.{Words}
+use Rattle.words.proofs.Moves.{same-equal, equal-same}
+use Rattle.blocks.specs.Block.{block, count, worst}
+use Rattle.blocks.specs.Numbers.{over, afterwards, blockNumber}
+use Rattle.blocks.specs.declared.Unpacked.{Unpacked}
+use Rattle.blocks.proofs.Checks.{afterwards-new, afterwards-old}
+use Rattle.exams.specs.File.{Entry, entry, File, mark, fileLength, fileBytes, blockOf, empty, appended}
+use Rattle.exams.specs.Reading.{markIn, editionIn, tIn, examIn, distanceIn, entriesIn, lengthIn, fileIn, indexOf}
+use Rattle.exams.specs.Numbers.{mostBytes, directoryNumber, openInNumber, findNumber, blockIn, fetchNumber, createNumber, nextSlot}
+use Rattle.exams.specs.Calls.{opened, openedNumber, openedT, openedEntries, openedStart, trailerOf, Finds, fetchesNumber, Fetches, made, Changes, createsNumber, appendsNumber, Appends}
+use Rattle.exams.specs.Maps.{Map, fileOf}
+use Rattle.exams.specs.declared.Made.{Made}
+use Rattle.exams.specs.declared.Opened.{Opened}
+use Rattle.exams.proofs.Opens.{opens-in, t-in, body-long, entries-many}
+use Rattle.exams.proofs.Accept.{Follows, directory-follows, SlotIn, OpenTakes, open-takes, takes-open, FindTakes, find-takes, takes-find, FetchTakes, fetch-takes, takes-fetch, CreateTakes, takes-create, AppendTakes, append-takes, takes-append, follows-directory, opened-number, opened-done, fetches-number, changes-number, changes-none}
+use Rattle.exams.proofs.Writes.{creates, length-file}
+use Rattle.exams.proofs.Maps.{Holds, holds-length, holds-opens, created-holds, appended-clear, appended-holds, maps-open, map-answer, map-words, FitMap, Fit, none-fit, fit-more, fit-at}
+use Rattle.exams.proofs.Cut.{never}
+use Rattle.exams.proofs.Grow.{block-kept}
+
+-- ---- no second answer
+
+-- Of open's answer, the promise admits one value.
+pub open-one-answer : (b : List ℕ) (l exam : ℕ) {r₁ r₂ : Opened} → r₁ ≡ opened b l exam → r₂ ≡ opened b l exam → r₁ ≡ r₂
+open-one-answer b l exam p q = p ∙ sym q
+
+-- Of the part that find hands back and of its number, refused or not, the promise admits one value each.
+pub find-one-answer : {b : List ℕ} {l exam slot n₁ n₂ : ℕ} {p₁ p₂ : List ℕ} → Finds b l exam slot p₁ n₁ → Finds b l exam slot p₂ n₂ → (p₁ ≡ p₂) × (n₁ ≡ n₂)
+find-one-answer p q = (p .answer ∙ sym (q .answer), p .numberLeft ∙ sym (q .numberLeft))
+
+-- Of fetch's answer, of both tables and of the words, refused or not, the promise admits one value each.
+pub fetch-one-answer : {b : List ℕ} {l exam slot : ℕ} {fcm dfcm words f₁ d₁ w₁ f₂ d₂ w₂ : List ℕ} {r₁ r₂ : Unpacked}
+    → Fetches b l exam slot fcm dfcm words r₁ f₁ d₁ w₁ → Fetches b l exam slot fcm dfcm words r₂ f₂ d₂ w₂ → (r₁ ≡ r₂) × (f₁ ≡ f₂) × (d₁ ≡ d₂) × (w₁ ≡ w₂)
+fetch-one-answer p q = (p .answer ∙ sym (q .answer), p .fcmLeft ∙ sym (q .fcmLeft), p .dfcmLeft ∙ sym (q .dfcmLeft), p .wordsLeft ∙ sym (q .wordsLeft))
+
+-- Of create's answer and of the buffer, refused or not, the promise admits one value each. (So it is of every call that makes or changes a file.)
+pub create-one-answer : {k : ℕ} {f : File} {b b₁ b₂ : List ℕ} {r₁ r₂ : Made} → Changes k f b r₁ b₁ → Changes k f b r₂ b₂ → (r₁ ≡ r₂) × (b₁ ≡ b₂)
+create-one-answer p q = (p .answer ∙ sym (q .answer), p .fileLeft ∙ sym (q .fileLeft))
+
+-- Of append's answer, of the file, of both tables and of the bench buffer, refused or not, the promise admits one value each.
+pub append-one-answer : {b : List ℕ} {l exam slot : ℕ} {words fcm dfcm bench b₁ f₁ d₁ n₁ b₂ f₂ d₂ n₂ : List ℕ} {r₁ r₂ : Made}
+    → Appends b l exam slot words fcm dfcm bench r₁ b₁ f₁ d₁ n₁ → Appends b l exam slot words fcm dfcm bench r₂ b₂ f₂ d₂ n₂
+    → (r₁ ≡ r₂) × (b₁ ≡ b₂) × (f₁ ≡ f₂) × (d₁ ≡ d₂) × (n₁ ≡ n₂)
+append-one-answer p q =
+    let f = create-one-answer (p .file) (q .file) in
+    (f .0, f .1, p .fcmLeft ∙ sym (q .fcmLeft), p .dfcmLeft ∙ sym (q .dfcmLeft), p .benchLeft ∙ sym (q .benchLeft))
+
+-- ---- when each call answers 0
+
+-- Open answers the trailer just where it has what it needs.
+pub open-accepts : (b : List ℕ) (l exam : ℕ) → (openedNumber (opened b l exam) ≡ 0) ↔ OpenTakes b l exam
+open-accepts b l exam = ((λ e. open-takes b l exam (sym (opened-number b l exam) ∙ e)), (λ k. opened-number b l exam ∙ takes-open b l exam k))
+
+-- What it then answers is read off the file: t, the number of entries and the directory's start.
+pub open-answers : (b : List ℕ) (l exam : ℕ) → openedNumber (opened b l exam) ≡ 0
+    → (openedT (opened b l exam) ≡ tIn (take l b)) × (openedEntries (opened b l exam) ≡ entriesIn (take l b)) × (openedStart (opened b l exam) + distanceIn (take l b) ≡ l)
+open-answers b l exam e =
+    let z = sym (opened-number b l exam) ∙ e in
+    let d = opened-done b l exam z in
+    let k = open-takes b l exam z in
+    let ll : length (take l b) ≡ l = opens-in b l exam z .long in (
+      ap openedT d ∙ t-in (take l b),
+      ap openedEntries d ∙ entries-many (take l b),
+      omega (arith, ap openedStart d, body-long (take l b), k .reach),
+    )
+
+-- Find answers 0 just where the file opens and has the slot.
+pub find-accepts : {b : List ℕ} {l exam slot n : ℕ} {p : List ℕ} → Finds b l exam slot p n → (n ≡ 0) ↔ FindTakes b l exam slot
+find-accepts c = ((λ e. find-takes _ _ _ _ (sym (c .numberLeft) ∙ e)), (λ k. c .numberLeft ∙ takes-find _ _ _ _ k))
+
+-- Fetch answers 0 just where it has what it needs, tables of 2 ^ t words among it.
+pub fetch-accepts : {b : List ℕ} {l exam slot : ℕ} {fcm dfcm words f' d' w' : List ℕ} {r : Unpacked} → Fetches b l exam slot fcm dfcm words r f' d' w'
+    → (r .number ≡ 0) ↔ FetchTakes b l exam slot (length fcm) (length dfcm) (length words)
+fetch-accepts c = ((λ e. fetch-takes _ _ _ _ _ _ _ (sym (fetches-number c) ∙ e)), (λ k. fetches-number c ∙ takes-fetch _ _ _ _ _ _ _ k))
+
+-- Create answers 0 just where the exam number is not 0, t is at most 16 and there is room for a trailer.
+pub create-accepts : (exam t : ℕ) {b b' : List ℕ} {r : Made} → Changes (createsNumber b exam t) (empty exam t) b r b' → (r .number ≡ 0) ↔ CreateTakes exam t (length b)
+create-accepts exam t {b} c = (
+  (λ e. let k = creates exam t (length b) (sym (changes-number c) ∙ e) in record { named = k .named; most = k .most; enough = k .room-is }),
+  (λ k. changes-number c ∙ takes-create exam t (length b) k),
+)
+
+-- Append answers 0 just where it has what it needs.
+pub append-accepts : {b : List ℕ} {l exam slot : ℕ} {words fcm dfcm bench b' f' d' n' : List ℕ} {r : Made} → Appends b l exam slot words fcm dfcm bench r b' f' d' n'
+    → (r .number ≡ 0) ↔ AppendTakes b l exam slot (length words) (length fcm) (length dfcm) (length bench)
+append-accepts {words} {fcm} {dfcm} {bench} c = (
+  (λ e. append-takes _ _ _ _ words fcm dfcm bench (sym (changes-number (c .file)) ∙ e)),
+  (λ k. changes-number (c .file) ∙ takes-append _ _ _ _ words fcm dfcm bench k),
+)
+
+-- The directory's rule is what it says: slots strictly ascend, the first offset is 0, each next offset is the previous offset plus length, each length is
+-- at least 8, and the last block ends where the directory starts.
+pub directory-rule : (f : File) → (directoryNumber f ≡ 0) ↔ Follows 0 0 (f .entries) (length (f .body))
+directory-rule f = (directory-follows f, follows-directory f)
+
+-- ---- a file opens only for its own exam number
+
+-- Where open answers 0, the trailer's exam number is the one asked for, and not 0. (Find, fetch and append open first.)
+pub own-exam : (b : List ℕ) (l exam : ℕ) → openedNumber (opened b l exam) ≡ 0 → (examIn (take l b) ≡ exam) × (0 < exam)
+own-exam b l exam e = let k = open-accepts b l exam .0 e in (k .own, k .named)
+
+-- So one file opens for no two exam numbers.
+pub one-exam : (b : List ℕ) (l e₁ e₂ : ℕ) → openedNumber (opened b l e₁) ≡ 0 → openedNumber (opened b l e₂) ≡ 0 → e₁ ≡ e₂
+one-exam b l e₁ e₂ p q = sym (own-exam b l e₁ p .0) ∙ own-exam b l e₂ q .0
+
+-- ---- what the tables held before plays no part
+
+-- Two accepted runs of fetch that differ in the tables' old content answer the same, write the same and leave equal tables.
+pub fetch-forgets : {b : List ℕ} {l exam slot : ℕ} {f₁ d₁ f₂ d₂ words f₁' d₁' f₂' d₂' w₁ w₂ : List ℕ} {r₁ r₂ : Unpacked}
+    → Fetches b l exam slot f₁ d₁ words r₁ f₁' d₁' w₁ → Fetches b l exam slot f₂ d₂ words r₂ f₂' d₂' w₂ → length f₁ ≡ length f₂ → length d₁ ≡ length d₂ → r₁ .number ≡ 0
+    → (r₁ ≡ r₂) × (f₁' ≡ f₂') × (d₁' ≡ d₂') × (w₁ ≡ w₂)
+fetch-forgets p q e g z =
+    let x = sym (fetches-number p) ∙ z in
+    let y = rw (e, g) at x in (
+      p .answer ∙ rw (e, g) (sym (q .answer)),
+      p .fcmLeft ∙ afterwards-new _ _ _ x ∙ sym (q .fcmLeft ∙ afterwards-new _ _ _ y),
+      p .dfcmLeft ∙ afterwards-new _ _ _ x ∙ sym (q .dfcmLeft ∙ afterwards-new _ _ _ y),
+      p .wordsLeft ∙ afterwards-new _ _ _ x ∙ sym (q .wordsLeft ∙ afterwards-new _ _ _ y),
+    )
+
+-- So do two accepted runs of append: the same answer, file and bench buffer, and equal tables.
+pub append-forgets : {b : List ℕ} {l exam slot : ℕ} {words f₁ d₁ f₂ d₂ bench b₁ f₁' d₁' n₁ b₂ f₂' d₂' n₂ : List ℕ} {r₁ r₂ : Made}
+    → Appends b l exam slot words f₁ d₁ bench r₁ b₁ f₁' d₁' n₁ → Appends b l exam slot words f₂ d₂ bench r₂ b₂ f₂' d₂' n₂ → length f₁ ≡ length f₂ → length d₁ ≡ length d₂ → r₁ .number ≡ 0
+    → (r₁ ≡ r₂) × (b₁ ≡ b₂) × (f₁' ≡ f₂') × (d₁' ≡ d₂') × (n₁ ≡ n₂)
+append-forgets p q e g z =
+    let x = sym (changes-number (p .file)) ∙ z in
+    let y = rw (e, g) at x in (
+      p .file .answer ∙ rw (e, g) (sym (q .file .answer)),
+      p .file .fileLeft ∙ rw (e, g) (sym (q .file .fileLeft)),
+      p .fcmLeft ∙ afterwards-new _ _ _ x ∙ sym (q .fcmLeft ∙ afterwards-new _ _ _ y),
+      p .dfcmLeft ∙ afterwards-new _ _ _ x ∙ sym (q .dfcmLeft ∙ afterwards-new _ _ _ y),
+      p .benchLeft ∙ rw (e, g) (sym (q .benchLeft)),
+    )
+
+-- ---- files made by create and appends
+
+-- the buffer b, as far as l, was made by create for an exam and a t, and then by an append for each of the maps, none of them refused
+pub data MadeOf (exam t : ℕ) : List Map → List ℕ → ℕ → Type 0 where
+  created : {b b' : List ℕ} {r : Made} → exam < 2 ^ 64 → Changes (createsNumber b exam t) (empty exam t) b r b' → r .number ≡ 0 → MadeOf exam t [] b' (r .length)
+  grown : {ms : List Map} {b : List ℕ} {l slot : ℕ} {words fcm dfcm bench b' fcm' dfcm' bench' : List ℕ} {r : Made}
+      → MadeOf exam t ms b l → slot < 2 ^ 32 → Words words → Appends b l exam slot words fcm dfcm bench r b' fcm' dfcm' bench' → r .number ≡ 0
+      → MadeOf exam t (ms ++ (record { slot = slot; words = words } ∷ [])) b' (r .length)
+
+made-holds : {exam t : ℕ} {ms : List Map} {b : List ℕ} {l : ℕ} → MadeOf exam t ms b l → Holds b l (fileOf exam t ms)
+made-holds (created w c e) = created-holds w c e
+made-holds {exam} {t} (grown {ms = ms} h s w c e) = appended-holds exam t ms (made-holds h) s c e
+
+-- Such a file is the bytes of its parts: the blocks of the maps in order, an entry for each, the trailer.
+pub made-is-its-parts : {exam t : ℕ} {ms : List Map} {b : List ℕ} {l : ℕ} → MadeOf exam t ms b l → (take l b ≡ fileBytes (fileOf exam t ms)) × (l ≡ fileLength (fileOf exam t ms))
+made-is-its-parts m = let h = made-holds m in (h .bytes, holds-length h)
+
+-- Such a file opens for its exam number.
+pub made-opens : {exam t : ℕ} {ms : List Map} {b : List ℕ} {l : ℕ} → MadeOf exam t ms b l → openedNumber (opened b l exam) ≡ 0
+made-opens {exam} {b = b} {l} m = opened-number b l exam ∙ maps-open exam _ _ (made-holds m)
+
+made-fit : {exam t : ℕ} {ms : List Map} {b : List ℕ} {l : ℕ} → MadeOf exam t ms b l → Fit ms
+made-fit (created w c e) = none-fit
+made-fit {exam} {t} (grown {ms = ms} h s w c e) =
+    fit-more _ (made-fit h) (record { few = appended-clear exam t ms (made-holds h) s c e .packs .few; wide = w })
+
+-- Fetching a slot of such a file gives back exactly the words that were appended there: with tables of 2 ^ t words, whatever they hold, and whatever
+-- else the file holds.
+pub made-fetches : (first : List Map) (m : Map) (rest : List Map) {exam t : ℕ} {b : List ℕ} {l : ℕ} {fcm dfcm room fcm' dfcm' room' : List ℕ} {r : Unpacked}
+    → MadeOf exam t (first ++ m ∷ rest) b l → Fetches b l exam (m .slot) fcm dfcm room r fcm' dfcm' room'
+    → length fcm ≡ 2 ^ t → length dfcm ≡ 2 ^ t → length (m .words) ≤ length room
+    → (r ≡ record { number = 0; count = length (m .words) }) × (room' ≡ over (m .words) room)
+made-fetches first m rest {exam} {t} k c lf ld enough =
+    let h = made-holds k in
+    let fit = fit-at first m rest (made-fit k) in
+    (map-answer exam t first m rest h fit c lf ld enough, map-words exam t first m rest h fit c lf ld enough)
+
+-- ---- an append leaves what was there
+
+-- A refused append changes nothing.
+pub refused-append-changes-nothing : {b : List ℕ} {l exam slot : ℕ} {words fcm dfcm bench b' f' d' n' : List ℕ} {r : Made}
+    → Appends b l exam slot words fcm dfcm bench r b' f' d' n' → (r .number ≡ 0 → ⊥) → (r .length ≡ 0) × (b' ≡ b) × (f' ≡ fcm) × (d' ≡ dfcm) × (n' ≡ bench)
+refused-append-changes-nothing {b} {l} {exam} {slot} {words} {fcm} {dfcm} {bench} c h =
+    let k : appendsNumber b l exam slot words fcm dfcm bench ≡ 0 → ⊥ = λ z. h (changes-number (c .file) ∙ z) in (
+      changes-none (c .file) h,
+      c .file .fileLeft ∙ afterwards-old _ _ _ k,
+      c .fcmLeft ∙ afterwards-old _ _ _ k,
+      c .dfcmLeft ∙ afterwards-old _ _ _ k,
+      c .benchLeft ∙ afterwards-old _ _ _ k,
+    )
+
+-- A file with a block appended keeps every earlier entry in its place, and with it the block's place and bytes.
+pub append-keeps-blocks : (f : File) (slot : ℕ) (blk : List ℕ) (i : ℕ) (d : Entry) → directoryNumber f ≡ 0 → i < length (f .entries)
+    → (getD (appended f slot blk .entries) i d ≡ getD (f .entries) i d) × (blockOf (appended f slot blk) (getD (f .entries) i d) ≡ blockOf f (getD (f .entries) i d))
+append-keeps-blocks f slot blk i d z h = (List·getD-append (f .entries) _ d i h, block-kept f slot blk i d z h)
+
+-- ---- nothing cut short
+
+-- No file opens whose own trailer, at its end, does not state its length.
+pub trailer-states-length : (b : List ℕ) (l exam : ℕ) → openedNumber (opened b l exam) ≡ 0 → lengthIn (take l b) ≡ l
+trailer-states-length b l exam e = open-accepts b l exam .0 e .stated
+
+-- Fetch never unpacks a block that is not whole.
+pub fetched-is-whole : {b : List ℕ} {l exam slot : ℕ} {fcm dfcm words f' d' w' : List ℕ} {r : Unpacked} → Fetches b l exam slot fcm dfcm words r f' d' w' → r .number ≡ 0
+    → blockNumber (blockIn b l slot) ≡ 0
+fetched-is-whole c e = fetch-accepts c .0 e .whole
+
+-- A proper first part of a file made by create and appends may open, for whatever number is asked, only with a directory of which some block is not whole:
+-- never do all its slots unpack.
+pub cut-is-never-whole : {exam t : ℕ} {ms : List Map} {b : List ℕ} {l : ℕ} → MadeOf exam t ms b l → (k asked : ℕ) → k < l → openedNumber (opened b k asked) ≡ 0
+    → ((i : ℕ) → i < length (fileIn (take k b) .entries) → blockNumber (blockOf (fileIn (take k b)) (getD (fileIn (take k b) .entries) i (entry 0 0 0))) ≡ 0) → ⊥
+cut-is-never-whole {exam} {t} {ms} {b} {l} m k asked short e w =
+    let h = made-holds m in
+    let p : take k b ≡ take k (fileBytes (fileOf exam t ms)) = sym (take-take k l b (omega arith)) ∙ ap (λ (x : List ℕ). take k x) (h .bytes) in
+    let o = opens-in b k asked (sym (opened-number b k asked) ∙ e) .is in
+    never exam t ms (h .good) (made-fit m) k asked (omega (arith, holds-length h, length-file (fileOf exam t ms))) (rw p at o) (rw p at w)

@@ -1,0 +1,34 @@
+use mathlib.Core.Path.{sym, _∙_}
+use native.Mathlib.Omega.{arith}
+use Rattle.exams.proofs.Writes.{creates, change-refused, create-done}
+use borrow.Author.Needs.{needs}
+use Rattle.exams.proofs.making.create.Statement.{statement}
+use Rattle.exams.proofs.making.create.Tie as tie
+
+create-number-requires : tie.Need-create-number-requires
+create-number-requires c κs = search needs
+
+returns : tie.Need-returns
+returns c =
+    let at-create-number = c .before in
+    change-refused _ _ _ _ (at-create-number .create-number .ensures) (λ e. omega (arith, c .if1 .taken))
+
+put-trailer-requires : tie.Need-put-trailer-requires
+put-trailer-requires c κs =
+    let at-if1 = c .before in
+    let at-create-number = at-if1 .before in
+    (creates _ _ _ (sym (at-create-number .create-number .ensures) ∙ at-if1 .if1 .left) .room-is, omega arith)
+
+same-length : tie.Need-same-length
+same-length c = search needs
+
+returns-2 : tie.Need-returns-2
+returns-2 c =
+    let at-put-trailer = c .before .before in
+    let at-if1 = at-put-trailer .before .before in
+    let at-create-number = at-if1 .before in
+    create-done _ _ _ _ _ (at-create-number .create-number .ensures) (at-if1 .if1 .left) (at-put-trailer .put-trailer .ensures)
+
+pub create-spec : {M : Type 1} → statement M
+create-spec =
+    tie.close (tie.spec create-number-requires returns put-trailer-requires same-length returns-2)
