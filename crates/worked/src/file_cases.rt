@@ -154,6 +154,15 @@ pub fn refusals_to_open() {
     open(&file, 0xFFFFFFFFFFFFFFFF, 7);
 }
 
+// The file of 53 bytes: exam 7, t 10, and the one word 0 in slot 3.
+fn one_map(file: &mut [u8]) {
+    let mut bench = [0xEEu8; 17];
+    let mut fcm = [7u64; 1024];
+    let mut dfcm = [7u64; 1024];
+    exams::create(file, 7, 10);
+    exams::append(file, 32, 7, 3, &[0u64; 1], &mut fcm, &mut dfcm, &mut bench);
+}
+
 // Changes one byte.
 fn set(bytes: &mut [u8], at: usize, to: u8) {
     if at < bytes.len() {
@@ -163,61 +172,8 @@ fn set(bytes: &mut [u8], at: usize, to: u8) {
 
 // Opens the file of 53 bytes with one byte changed.
 fn changed(at: usize, to: u8) {
-    let mut file = [
-        1u8,
-        0,
-        0,
-        0,
-        9,
-        0,
-        0,
-        0,
-        0x77,
-        3,
-        0,
-        0,
-        0,
-        0,
-        0,
-        0,
-        0,
-        9,
-        0,
-        0,
-        0,
-        0x63,
-        0x6F,
-        0x69,
-        0x6C,
-        1,
-        0,
-        10,
-        0,
-        7,
-        0,
-        0,
-        0,
-        0,
-        0,
-        0,
-        0,
-        44,
-        0,
-        0,
-        0,
-        1,
-        0,
-        0,
-        0,
-        53,
-        0,
-        0,
-        0,
-        0,
-        0,
-        0,
-        0,
-    ];
+    let mut file = [0xEEu8; 61];
+    one_map(&mut file);
     set(&mut file, at, to);
     show::labelled(b"byte ", at as u64);
     show::labelled(b" is ", to as u64);
@@ -282,61 +238,9 @@ pub fn refusals_to_find() {
 
 // The file of 53 bytes with 6 for the filler of its block.
 fn fetch_damaged() {
-    let file = [
-        1u8,
-        0,
-        0,
-        0,
-        9,
-        0,
-        0,
-        0,
-        0x76,
-        3,
-        0,
-        0,
-        0,
-        0,
-        0,
-        0,
-        0,
-        9,
-        0,
-        0,
-        0,
-        0x63,
-        0x6F,
-        0x69,
-        0x6C,
-        1,
-        0,
-        10,
-        0,
-        7,
-        0,
-        0,
-        0,
-        0,
-        0,
-        0,
-        0,
-        44,
-        0,
-        0,
-        0,
-        1,
-        0,
-        0,
-        0,
-        53,
-        0,
-        0,
-        0,
-        0,
-        0,
-        0,
-        0,
-    ];
+    let mut file = [0xEEu8; 61];
+    one_map(&mut file);
+    set(&mut file, 8, 0x76);
     fetch(&file, 53, 7, 3, &mut [7u64; 1024], &mut [7u64; 1024]);
 }
 
