@@ -12,11 +12,12 @@ use Rattle.blocks.specs.Codes.{fcmResidual, dfcmResidual, dfcmChosen, lo
 use Rattle.blocks.specs.Block.{block, body, worst, count, statedLength, residualsAt, countedCodes, lastHalf, residualLength, wordsIn}
 use Rattle.blocks.specs.Room.{Run, joined, Cut, ofEqualWords, runCost, bound, closerBound, Settles}
 use Rattle.blocks.specs.Numbers.{tOf, over, unless, firstFailure, afterwards, fillerStands, blockNumber, tablesNumber}
-use Rattle.blocks.specs.Calls.{Packs, checked, Unpacks}
+use Rattle.blocks.specs.Calls.{packed, packsNumber, Packs, checked, unpacked, unpacksNumber, Unpacks}
 use Rattle.blocks.specs.Worked.{cases, made, worked}
 use Rattle.blocks.specs.declared.Packed.{Packed}
 use Rattle.blocks.specs.declared.Checked.{Checked}
 use Rattle.blocks.specs.declared.Unpacked.{Unpacked}
+use Rattle.blocks.proofs.Checks.{afterwards-old}
 use Rattle.blocks.proofs.Tables.{sized-power, t-of-power, tables-sized, sized-tables}
 use Rattle.blocks.proofs.GetLoop.{length-words}
 use Rattle.blocks.proofs.Accept.{packable, packable-packs, whole, whole-checks, unpackable, unpackable-unpacks, packs-number, checks-number, unpacks-number, packs-all-of, unpacks-all-of, unpacked-of, check-done, counted, too-short-for-codes, whole-alone, filler-needs, filler-has}
@@ -67,6 +68,37 @@ pack-all-one-answer p q = (p .size ∙ sym (q .size), p .fcm ∙ sym (q .fcm), p
 pub unpack-all-one-answer : {t : ℕ} {b old f₁ d₁ w₁ f₂ d₂ w₂ : List ℕ} {k₁ k₂ : ℕ}
     → UnpacksAll t b old f₁ d₁ w₁ k₁ → UnpacksAll t b old f₂ d₂ w₂ k₂ → (k₁ ≡ k₂) × (f₁ ≡ f₂) × (d₁ ≡ d₂) × (w₁ ≡ w₂)
 unpack-all-one-answer p q = (p .count ∙ sym (q .count), p .fcm ∙ sym (q .fcm), p .dfcm ∙ sym (q .dfcm), p .words ∙ sym (q .words))
+
+-- ---- a refusal leaves everything as it was
+
+-- A refused pack answers length 0, and leaves both tables and the output as they were.
+pub refused-pack-changes-nothing : {words fcm dfcm out f' d' out' : List ℕ} {r : Packed} → Packs words fcm dfcm out r f' d' out' → (r .number ≡ 0 → ⊥)
+    → (r .length ≡ 0) × (f' ≡ fcm) × (d' ≡ dfcm) × (out' ≡ out)
+unfolding packed
+refused-pack-changes-nothing {words} {fcm} {dfcm} {out} p h =
+    let k : packsNumber words fcm dfcm out ≡ 0 → ⊥ = λ z. h (packs-number p ∙ z) in (
+      ap (λ (x : Packed). x .length) (p .answer) ∙ afterwards-old _ _ 0 k,
+      p .fcmLeft ∙ afterwards-old _ _ _ k,
+      p .dfcmLeft ∙ afterwards-old _ _ _ k,
+      p .outLeft ∙ afterwards-old _ _ _ k,
+    )
+
+-- A refused check answers count 0.
+pub refused-check-counts-nothing : (b : List ℕ) → (checked b .number ≡ 0 → ⊥) → checked b .count ≡ 0
+unfolding checked
+refused-check-counts-nothing b h = afterwards-old _ _ 0 h
+
+-- A refused unpack answers count 0, and leaves both tables and the words as they were.
+pub refused-unpack-changes-nothing : {b fcm dfcm words f' d' w' : List ℕ} {r : Unpacked} → Unpacks b fcm dfcm words r f' d' w' → (r .number ≡ 0 → ⊥)
+    → (r .count ≡ 0) × (f' ≡ fcm) × (d' ≡ dfcm) × (w' ≡ words)
+unfolding unpacked
+refused-unpack-changes-nothing {b} {fcm} {dfcm} {words} p h =
+    let k : unpacksNumber b fcm dfcm words ≡ 0 → ⊥ = λ z. h (unpacks-number p ∙ z) in (
+      ap (λ (x : Unpacked). x .count) (p .answer) ∙ afterwards-old _ _ 0 k,
+      p .fcmLeft ∙ afterwards-old _ _ _ k,
+      p .dfcmLeft ∙ afterwards-old _ _ _ k,
+      p .wordsLeft ∙ afterwards-old _ _ _ k,
+    )
 
 -- ---- when each call answers 0
 

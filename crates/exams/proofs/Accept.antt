@@ -18,10 +18,11 @@ use Rattle.blocks.proofs.Checks.{unless-passes, unless-holds, none-fails, fails
 use Rattle.exams.specs.File.{Entry, entry, File, mark}
 use Rattle.exams.specs.Reading.{markIn, editionIn, tIn, examIn, distanceIn, entriesIn, lengthIn, fileIn, indexOf}
 use Rattle.exams.specs.Numbers.{mostBytes, editionKnown, joins, entriesNumber, directoryNumber, openInNumber, findNumber, blockIn, fileTablesNumber, fetchNumber, createNumber, nextSlot, appendNumber, appendNumberTo}
-use Rattle.exams.specs.Calls.{trailerOf, opened, openedNumber, fetchesNumber, Fetches, made, Changes, createsNumber, appendsNumber}
+use Rattle.exams.specs.Calls.{trailerOf, opened, openedNumber, fetchesNumber, Fetches, made, Changes, appendsNumber}
 use Rattle.exams.specs.declared.Made.{Made}
 use Rattle.exams.specs.declared.Opened.{Opened}
 use Rattle.exams.specs.declared.Opened.the-variants.{Done, Refused}
+use Rattle.exams.proofs.Writes.{CreateTakes}
 use Rattle.exams.proofs.Directory.{Heads, heads, heads-keep, joins-equal, equal-joins, edition-is, edition-one}
 use Rattle.exams.proofs.Opens.{Trails, Opens, OpensIn, opens-in, opens-in-keep, t-in}
 use Rattle.exams.proofs.Grow.{Clear, clear}
@@ -188,11 +189,6 @@ takes-fetch b l exam slot f d room k =
     (fails-later _ _ _ (k .whole) (passes _ _ _ _ (le-leb _ _ (k .enough)) all-pass))))
 
 -- ---- create
-
-pub record CreateTakes (exam t room : ℕ) : Type 0 where
-  pub named : 0 < exam
-  pub most : t ≤ 16
-  pub enough : 32 ≤ room
 
 pub takes-create : (exam t room : ℕ) → CreateTakes exam t room → createNumber exam t room ≡ 0
 unfolding createNumber

@@ -8,24 +8,27 @@ use lib.ListN.{length, getD, take, List·getD-append}
 use lib.Seq.{take-take}
 use borrow.Author.Tests.{leb-true, ltb-true, eqb-true, le-leb, lt-ltb, eq-eqb}
 use Rattle.words.specs.Words.{Words}
+use Rattle.words.specs.Bytes.{Bytes}
 use Rattle.words.proofs.Moves.{same-equal, equal-same}
 use Rattle.blocks.specs.Block.{block, count, worst}
 use Rattle.blocks.specs.Numbers.{over, afterwards, blockNumber}
+use Rattle.blocks.specs.Calls.{unpacked}
 use Rattle.blocks.specs.declared.Unpacked.{Unpacked}
 use Rattle.blocks.proofs.Checks.{afterwards-new, afterwards-old}
 use Rattle.exams.specs.File.{Entry, entry, File, mark, fileLength, fileBytes, blockOf, empty, appended}
-use Rattle.exams.specs.Reading.{markIn, editionIn, tIn, examIn, distanceIn, entriesIn, lengthIn, fileIn, indexOf}
+use Rattle.exams.specs.Reading.{markIn, editionIn, tIn, examIn, distanceIn, entriesIn, lengthIn, fileIn, indexOf, entryOf}
 use Rattle.exams.specs.Numbers.{mostBytes, directoryNumber, openInNumber, findNumber, blockIn, fetchNumber, createNumber, nextSlot}
-use Rattle.exams.specs.Calls.{opened, openedNumber, openedT, openedEntries, openedStart, trailerOf, Finds, fetchesNumber, Fetches, made, Changes, createsNumber, appendsNumber, Appends}
+use Rattle.exams.specs.Calls.{opened, openedNumber, openedT, openedEntries, openedStart, trailerOf, Finds, fetchesNumber, Fetches, made, Changes, Creates, appendsNumber, Appends}
 use Rattle.exams.specs.Maps.{Map, fileOf}
 use Rattle.exams.specs.declared.Made.{Made}
 use Rattle.exams.specs.declared.Opened.{Opened}
+use Rattle.exams.specs.declared.Opened.the-variants.{Done, Refused}
 use Rattle.exams.proofs.Opens.{opens-in, t-in, body-long, entries-many}
-use Rattle.exams.proofs.Accept.{Follows, directory-follows, SlotIn, OpenTakes, open-takes, takes-open, FindTakes, find-takes, takes-find, FetchTakes, fetch-takes, takes-fetch, CreateTakes, takes-create, AppendTakes, append-takes, takes-append, follows-directory, opened-number, opened-done, fetches-number, changes-number, changes-none}
-use Rattle.exams.proofs.Writes.{creates, length-file}
-use Rattle.exams.proofs.Maps.{Holds, holds-length, holds-opens, created-holds, appended-clear, appended-holds, maps-open, map-answer, map-words, FitMap, Fit, none-fit, fit-more, fit-at}
+use Rattle.exams.proofs.Accept.{Follows, directory-follows, SlotIn, OpenTakes, open-takes, takes-open, FindTakes, find-takes, takes-find, FetchTakes, fetch-takes, takes-fetch, takes-create, AppendTakes, append-takes, takes-append, follows-directory, opened-number, opened-done, fetches-number, changes-number, changes-none}
+use Rattle.exams.proofs.Writes.{CreateTakes, create-takes, length-file}
+use Rattle.exams.proofs.Maps.{Holds, holds-length, holds-parts, holds-opens, map-found, map-block, created-holds, appended-clear, appended-holds, maps-open, map-answer, map-words, FitMap, Fit, none-fit, fit-more, fit-at}
 use Rattle.exams.proofs.Cut.{never}
-use Rattle.exams.proofs.Grow.{block-kept}
+use Rattle.exams.proofs.Kept.{found-long, more-holds, more-opens, slot-kept}
 
 -- ---- no second answer
 
@@ -83,11 +86,8 @@ pub fetch-accepts : {b : List ℕ} {l exam slot : ℕ} {fcm dfcm words f' d' w' 
 fetch-accepts c = ((λ e. fetch-takes _ _ _ _ _ _ _ (sym (fetches-number c) ∙ e)), (λ k. fetches-number c ∙ takes-fetch _ _ _ _ _ _ _ k))
 
 -- Create answers 0 just where the exam number is not 0, t is at most 16 and there is room for a trailer.
-pub create-accepts : (exam t : ℕ) {b b' : List ℕ} {r : Made} → Changes (createsNumber b exam t) (empty exam t) b r b' → (r .number ≡ 0) ↔ CreateTakes exam t (length b)
-create-accepts exam t {b} c = (
-  (λ e. let k = creates exam t (length b) (sym (changes-number c) ∙ e) in record { named = k .named; most = k .most; enough = k .room-is }),
-  (λ k. changes-number c ∙ takes-create exam t (length b) k),
-)
+pub create-accepts : (exam t : ℕ) {b b' : List ℕ} {r : Made} → Creates b exam t r b' → (r .number ≡ 0) ↔ CreateTakes exam t (length b)
+create-accepts exam t {b} c = ((λ e. create-takes exam t (length b) (sym (changes-number c) ∙ e)), (λ k. changes-number c ∙ takes-create exam t (length b) k))
 
 -- Append answers 0 just where it has what it needs.
 pub append-accepts : {b : List ℕ} {l exam slot : ℕ} {words fcm dfcm bench b' f' d' n' : List ℕ} {r : Made} → Appends b l exam slot words fcm dfcm bench r b' f' d' n'
@@ -145,7 +145,7 @@ append-forgets p q e g z =
 
 -- the buffer b, as far as l, was made by create for an exam and a t, and then by an append for each of the maps, none of them refused
 pub data MadeOf (exam t : ℕ) : List Map → List ℕ → ℕ → Type 0 where
-  created : {b b' : List ℕ} {r : Made} → exam < 2 ^ 64 → Changes (createsNumber b exam t) (empty exam t) b r b' → r .number ≡ 0 → MadeOf exam t [] b' (r .length)
+  created : {b b' : List ℕ} {r : Made} → exam < 2 ^ 64 → Creates b exam t r b' → r .number ≡ 0 → MadeOf exam t [] b' (r .length)
   grown : {ms : List Map} {b : List ℕ} {l slot : ℕ} {words fcm dfcm bench b' fcm' dfcm' bench' : List ℕ} {r : Made}
       → MadeOf exam t ms b l → slot < 2 ^ 32 → Words words → Appends b l exam slot words fcm dfcm bench r b' fcm' dfcm' bench' → r .number ≡ 0
       → MadeOf exam t (ms ++ (record { slot = slot; words = words } ∷ [])) b' (r .length)
@@ -167,6 +167,14 @@ made-fit (created w c e) = none-fit
 made-fit {exam} {t} (grown {ms = ms} h s w c e) =
     fit-more _ (made-fit h) (record { few = appended-clear exam t ms (made-holds h) s c e .packs .few; wide = w })
 
+-- Finding a slot of such a file hands back the block of the words that were appended there.
+pub made-finds : (first : List Map) (m : Map) (rest : List Map) {exam t : ℕ} {b : List ℕ} {l : ℕ} {part : List ℕ} {number : ℕ}
+    → MadeOf exam t (first ++ m ∷ rest) b l → Finds b l exam (m .slot) part number → (number ≡ 0) × (part ≡ block t (m .words))
+made-finds first m rest {exam} {t} k c =
+    let h = made-holds k in
+    let z = map-found exam t first m rest h in
+    (c .numberLeft ∙ z, c .answer ∙ afterwards-new _ _ [] z ∙ map-block exam t first m rest h)
+
 -- Fetching a slot of such a file gives back exactly the words that were appended there: with tables of 2 ^ t words, whatever they hold, and whatever
 -- else the file holds.
 pub made-fetches : (first : List Map) (m : Map) (rest : List Map) {exam t : ℕ} {b : List ℕ} {l : ℕ} {fcm dfcm room fcm' dfcm' room' : List ℕ} {r : Unpacked}
@@ -178,7 +186,37 @@ made-fetches first m rest {exam} {t} k c lf ld enough =
     let fit = fit-at first m rest (made-fit k) in
     (map-answer exam t first m rest h fit c lf ld enough, map-words exam t first m rest h fit c lf ld enough)
 
--- ---- an append leaves what was there
+-- ---- a refusal leaves everything as it was
+
+-- A refused create leaves the buffer as it was.
+pub refused-create-changes-nothing : {b : List ℕ} {exam t : ℕ} {b' : List ℕ} {r : Made} → Creates b exam t r b' → (r .number ≡ 0 → ⊥) → (r .length ≡ 0) × (b' ≡ b)
+refused-create-changes-nothing c h = (changes-none c h, c .fileLeft ∙ afterwards-old _ _ _ (λ z. h (changes-number c ∙ z)))
+
+-- A refused open answers 0 for t, for the entries and for the directory's start.
+pub refused-open-tells-nothing : (o : Opened) → (openedNumber o ≡ 0 → ⊥) → (openedT o ≡ 0) × (openedEntries o ≡ 0) × (openedStart o ≡ 0)
+refused-open-tells-nothing (Done tr) h = absurd (h refl)
+refused-open-tells-nothing (Refused k) h = (refl, refl, refl)
+
+-- A refused find hands back an empty part; an accepted one hands back at least 8 bytes.
+pub refused-find-is-empty : {b : List ℕ} {l exam slot : ℕ} {part : List ℕ} {number : ℕ} → Finds b l exam slot part number → (number ≡ 0 → ⊥) → part ≡ []
+refused-find-is-empty c h = c .answer ∙ afterwards-old _ _ _ (λ z. h (c .numberLeft ∙ z))
+
+pub found-is-long : {b : List ℕ} {l exam slot : ℕ} {part : List ℕ} {number : ℕ} → Finds b l exam slot part number → number ≡ 0 → 8 ≤ length part
+found-is-long {b} {l} {exam} {slot} c e =
+    let z = sym (c .numberLeft) ∙ e in
+    rw (c .answer ∙ afterwards-new _ _ [] z) (found-long b l exam slot z)
+
+-- A refused fetch leaves both tables and the words as they were.
+pub refused-fetch-changes-nothing : {b : List ℕ} {l exam slot : ℕ} {fcm dfcm words f' d' w' : List ℕ} {r : Unpacked}
+    → Fetches b l exam slot fcm dfcm words r f' d' w' → (r .number ≡ 0 → ⊥) → (r .count ≡ 0) × (f' ≡ fcm) × (d' ≡ dfcm) × (w' ≡ words)
+unfolding unpacked
+refused-fetch-changes-nothing {b} {l} {exam} {slot} {fcm} {dfcm} {words} c h =
+    let k : fetchesNumber b l exam slot fcm dfcm words ≡ 0 → ⊥ = λ z. h (fetches-number c ∙ z) in (
+      ap (λ (x : Unpacked). x .count) (c .answer) ∙ afterwards-old _ _ 0 k,
+      c .fcmLeft ∙ afterwards-old _ _ _ k,
+      c .dfcmLeft ∙ afterwards-old _ _ _ k,
+      c .wordsLeft ∙ afterwards-old _ _ _ k,
+    )
 
 -- A refused append changes nothing.
 pub refused-append-changes-nothing : {b : List ℕ} {l exam slot : ℕ} {words fcm dfcm bench b' f' d' n' : List ℕ} {r : Made}
@@ -192,10 +230,19 @@ refused-append-changes-nothing {b} {l} {exam} {slot} {words} {fcm} {dfcm} {bench
       c .benchLeft ∙ afterwards-old _ _ _ k,
     )
 
--- A file with a block appended keeps every earlier entry in its place, and with it the block's place and bytes.
-pub append-keeps-blocks : (f : File) (slot : ℕ) (blk : List ℕ) (i : ℕ) (d : Entry) → directoryNumber f ≡ 0 → i < length (f .entries)
-    → (getD (appended f slot blk .entries) i d ≡ getD (f .entries) i d) × (blockOf (appended f slot blk) (getD (f .entries) i d) ≡ blockOf f (getD (f .entries) i d))
-append-keeps-blocks f slot blk i d z h = (List·getD-append (f .entries) _ d i h, block-kept f slot blk i d z h)
+-- ---- an append keeps what was there
+
+-- An accepted append to any file that opens makes a file that opens for the same exam number: the same parts, with one block and one entry more.
+pub append-adds : {b : List ℕ} {l exam slot : ℕ} {words fcm dfcm bench b' fcm' dfcm' bench' : List ℕ} {r : Made} → Bytes b → slot < 2 ^ 32
+    → Appends b l exam slot words fcm dfcm bench r b' fcm' dfcm' bench' → r .number ≡ 0
+    → (fileIn (take (r .length) b') ≡ appended (fileIn (take l b)) slot (block (fileIn (take l b) .t) words)) × (openedNumber (opened b' (r .length) exam) ≡ 0)
+append-adds {exam = exam} {b' = b'} {r = r} h w c e = (holds-parts (more-holds h w c e), opened-number b' (r .length) exam ∙ more-opens h w c e)
+
+-- Every slot that find gave before it gives afterwards: the same entry, so the same place, and the same block.
+pub append-keeps-slots : {b : List ℕ} {l exam slot : ℕ} {words fcm dfcm bench b' fcm' dfcm' bench' : List ℕ} {r : Made} → Bytes b → slot < 2 ^ 32
+    → Appends b l exam slot words fcm dfcm bench r b' fcm' dfcm' bench' → r .number ≡ 0 → (s : ℕ) → findNumber b l exam s ≡ 0
+    → (findNumber b' (r .length) exam s ≡ 0) × (entryOf s (fileIn (take (r .length) b')) ≡ entryOf s (fileIn (take l b))) × (blockIn b' (r .length) s ≡ blockIn b l s)
+append-keeps-slots h w c e s z = slot-kept h w c e s z
 
 -- ---- nothing cut short
 

@@ -172,3 +172,13 @@ within lowest from (e ∷ es) to (suc i) d z h = within _ _ es to i d (heads low
 pub block-within : (f : File) (i : ℕ) (d : Entry) → directoryNumber f ≡ 0 → i < length (f .entries) → getD (f .entries) i d .offset + getD (f .entries) i d .size ≤ length (f .body)
 unfolding directoryNumber
 block-within f i d z h = within 0 0 (f .entries) (length (f .body)) i d z h
+
+long : (lowest from : ℕ) (es : List Entry) (to i : ℕ) (d : Entry) → entriesNumber lowest from es to ≡ 0 → i < length es → 8 ≤ getD es i d .size
+long lowest from [] to i d z h = absurd (omega arith)
+long lowest from (e ∷ es) to zero d z h = heads lowest from e es to z .size
+long lowest from (e ∷ es) to (suc i) d z h = long _ _ es to i d (heads lowest from e es to z .rest) (omega arith)
+
+-- every block has at least 8 bytes
+pub block-long : (f : File) (i : ℕ) (d : Entry) → directoryNumber f ≡ 0 → i < length (f .entries) → 8 ≤ getD (f .entries) i d .size
+unfolding directoryNumber
+block-long f i d z h = long 0 0 (f .entries) (length (f .body)) i d z h

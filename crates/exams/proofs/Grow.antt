@@ -6,7 +6,7 @@ use native.Mathlib.Omega.{arith}
 use lib.ListN.{length, getD, take, drop, length-append, length-take, length-drop}
 use lib.Seq.{sets, sets-eq, take-take, take-add, drop-drop, length-take-le, take-append-seam}
 use borrow.Author.Tests.{leb-true, ltb-true, eqb-true}
-use Rattle.words.specs.Bytes.{lowBytes, number, field}
+use Rattle.words.specs.Bytes.{Bytes, lowBytes, number, field}
 use Rattle.words.proofs.Stores.{sets-sets}
 use Rattle.blocks.specs.Predictors.{cleared, after}
 use Rattle.blocks.specs.Block.{block, worst}
@@ -94,16 +94,13 @@ block-kept f slot blk i d z h =
 
 -- ---- the bytes of entries that were read
 
-abbrev pub Bytes : List ℕ → Type 0
-Bytes l = (i : ℕ) → getD l i 0 < 256
-
 pub bytes-take : (n : ℕ) (l : List ℕ) → Bytes l → Bytes (take n l)
 bytes-take zero l h i = omega arith
 bytes-take (suc n) [] h i = omega arith
 bytes-take (suc n) (x ∷ l) h zero = h 0
 bytes-take (suc n) (x ∷ l) h (suc i) = bytes-take n l (λ k. h (suc k)) i
 
-bytes-drop : (n : ℕ) (l : List ℕ) → Bytes l → Bytes (drop n l)
+pub bytes-drop : (n : ℕ) (l : List ℕ) → Bytes l → Bytes (drop n l)
 bytes-drop zero l h i = h i
 bytes-drop (suc n) [] h i = omega arith
 bytes-drop (suc n) (x ∷ l) h i = bytes-drop n l (λ k. h (suc k)) i

@@ -8,4 +8,5 @@ pub mod Back
 pub mod Maps
 pub mod Cut
 pub mod Accept
+pub mod Kept
 pub mod Claims

@@ -21,12 +21,12 @@ use Rattle.blocks.proofs.Round.{block-count, block-whole, block-words}
 use Rattle.blocks.proofs.Put.{length-block, block-at-most}
 use Rattle.exams.specs.File.{Entry, entry, File, fileLength, fileBytes, blockOf, empty, appended}
 use Rattle.exams.specs.Reading.{fileIn, indexOf, entryOf}
-use Rattle.exams.specs.Numbers.{mostBytes, entriesNumber, directoryNumber, openInNumber, findNumber, blockIn, fileTablesNumber, fetchNumber, nextSlot}
-use Rattle.exams.specs.Calls.{fetchesNumber, Fetches, made, Changes, createsNumber, appendsNumber, Appends}
+use Rattle.exams.specs.Numbers.{mostBytes, entriesNumber, directoryNumber, openInNumber, findNumber, blockIn, fileTablesNumber, fetchNumber, createNumber, nextSlot}
+use Rattle.exams.specs.Calls.{fetchesNumber, Fetches, made, Changes, Creates, appendsNumber, Appends}
 use Rattle.exams.specs.Maps.{Map, blocksOf, entriesOf, fileOf}
 use Rattle.exams.specs.declared.Made.{Made}
 use Rattle.exams.proofs.Directory.{edition-one, directory-empty, directory-more, heads}
-use Rattle.exams.proofs.Writes.{creates, length-file}
+use Rattle.exams.proofs.Writes.{create-takes, length-file}
 use Rattle.exams.proofs.Grow.{clear, Clear}
 use Rattle.exams.proofs.Back.{Small, Smalls, none, more, Good, parts-back, opens-in-back}
 
@@ -58,7 +58,7 @@ smalls-more : {es : List Entry} {e : Entry} → Smalls es → Small e → Smalls
 smalls-more none x = more x none
 smalls-more (more y s) x = more y (smalls-more s x)
 
-good-more : (f : File) (slot : ℕ) (b : List ℕ) → Good f → slot < 2 ^ 32 → length (f .entries) < 1024 → nextSlot 0 (f .entries) ≤ slot → 8 ≤ length b
+pub good-more : (f : File) (slot : ℕ) (b : List ℕ) → Good f → slot < 2 ^ 32 → length (f .entries) < 1024 → nextSlot 0 (f .entries) ≤ slot → 8 ≤ length b
     → fileLength f + 12 + length b ≤ mostBytes → Good (appended f slot b)
 good-more f slot b g s n h l z =
     let e = entry slot (length (f .body)) (length b) in
@@ -111,11 +111,11 @@ changed-holds {k} {f} {b} {b'} {r} c e g =
 
 -- ---- create, then appends
 
-pub created-holds : {exam t : ℕ} {b b' : List ℕ} {r : Made} → exam < 2 ^ 64 → Changes (createsNumber b exam t) (empty exam t) b r b' → r .number ≡ 0 → Holds b' (r .length) (fileOf exam t [])
+pub created-holds : {exam t : ℕ} {b b' : List ℕ} {r : Made} → exam < 2 ^ 64 → Creates b exam t r b' → r .number ≡ 0 → Holds b' (r .length) (fileOf exam t [])
 unfolding made fileOf
 created-holds {exam} {t} {b} {b'} {r} w c e =
-    let z : createsNumber b exam t ≡ 0 = sym (ap (λ (x : Made). x .number) (c .answer)) ∙ e in
-    let k = creates exam t (length b) z in
+    let z : createNumber exam t (length b) ≡ 0 = sym (ap (λ (x : Made). x .number) (c .answer)) ∙ e in
+    let k = create-takes exam t (length b) z in
     changed-holds c e (good-empty exam t (k .most) (k .named) w)
 
 module _ (exam t : ℕ) (ms : List Map) {b : List ℕ} {l : ℕ} (h : Holds b l (fileOf exam t ms)) {slot : ℕ} {words fcm dfcm bench b' fcm' dfcm' bench' : List ℕ} {r : Made}

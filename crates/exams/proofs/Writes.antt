@@ -12,7 +12,7 @@ use Rattle.blocks.specs.Numbers.{afterwards, over}
 use Rattle.blocks.proofs.Checks.{unless-holds, none-fails, afterwards-new, afterwards-old, sets-over}
 use Rattle.exams.specs.File.{Entry, entry, entryBytes, directoryBytes, mark, trailerBytes, File, fileLength, fileBytes, empty}
 use Rattle.exams.specs.Numbers.{createNumber}
-use Rattle.exams.specs.Calls.{made, Changes, createsNumber}
+use Rattle.exams.specs.Calls.{made, Changes, Creates}
 use Rattle.exams.specs.declared.Made.{Made}
 
 -- one run of stores after another
@@ -76,26 +76,27 @@ change-done k l f b b' z e q = record { answer = cc (afterwards-new _ (fileLengt
 
 -- ---- create
 
-pub record Creates (exam t room : ℕ) : Type 0 where
+-- what create needs: an exam number, t of at most 16, and room for a trailer
+pub record CreateTakes (exam t room : ℕ) : Type 0 where
   pub named : 0 < exam
   pub most : t ≤ 16
-  pub room-is : 32 ≤ room
+  pub enough : 32 ≤ room
 
-pub creates : (exam t room : ℕ) → createNumber exam t room ≡ 0 → Creates exam t room
+pub create-takes : (exam t room : ℕ) → createNumber exam t room ≡ 0 → CreateTakes exam t room
 unfolding createNumber
-creates exam t room z =
+create-takes exam t room z =
     let a = none-fails _ _ z in
     let b = none-fails _ _ (a .1) in
     record {
       named = ltb-true _ _ (unless-holds _ _ (a .0) (omega arith));
       most = leb-true _ _ (unless-holds _ _ (b .0) (omega arith));
-      room-is = leb-true _ _ (unless-holds _ _ (none-fails _ _ (b .1) .0) (omega arith));
+      enough = leb-true _ _ (unless-holds _ _ (none-fails _ _ (b .1) .0) (omega arith));
     }
 
-pub create-done : (b b' : List ℕ) (exam t k : ℕ) → k ≡ createsNumber b exam t → k ≡ 0 → b' ≡ sets b 0 (trailerBytes 1 t exam 0 32)
-    → Changes (createsNumber b exam t) (empty exam t) b (record { number = 0; length = 32 }) b'
+pub create-done : (b b' : List ℕ) (exam t k : ℕ) → k ≡ createNumber exam t (length b) → k ≡ 0 → b' ≡ sets b 0 (trailerBytes 1 t exam 0 32)
+    → Creates b exam t (record { number = 0; length = 32 }) b'
 unfolding fileBytes
 create-done b b' exam t k e z q =
     let y = sym e ∙ z in
     change-done _ 32 (empty exam t) b b' y refl
-    (q ∙ sets-over (trailerBytes 1 t exam 0 32) b (omega (arith, creates exam t (length b) y .room-is, length-trailer 1 t exam 0 32)))
+    (q ∙ sets-over (trailerBytes 1 t exam 0 32) b (omega (arith, create-takes exam t (length b) y .enough, length-trailer 1 t exam 0 32)))

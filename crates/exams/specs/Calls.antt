@@ -83,9 +83,9 @@ pub record Changes (k : ℕ) (f : File) (b : List ℕ) (r : Made) (b' : List ℕ
   pub answer : r ≡ made k f
   pub fileLeft : b' ≡ afterwards k (over (fileBytes f) b) b
 
--- create(file, exam, t)
-abbrev pub createsNumber : List ℕ → ℕ → ℕ → ℕ
-createsNumber b exam t = createNumber exam t (length b)
+-- create(file, exam, t): an empty file
+abbrev pub Creates : List ℕ → ℕ → ℕ → Made → List ℕ → Type 0
+Creates b exam t r b' = Changes (createNumber exam t (length b)) (empty exam t) b r b'
 
 -- append(file, length, exam, slot, words, fcm, dfcm, bench): the file with the block of the words appended, the tables as pack leaves them, the block in the bench
 module _ (b : List ℕ) (l exam slot : ℕ) (words fcm dfcm bench : List ℕ) where

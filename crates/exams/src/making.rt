@@ -3,10 +3,10 @@ ghost use mathlib.Core.Path.{_≡_};
 ghost use Prim.Native.Nat.{_+_, _*_, _≤_};
 ghost use lib.ListN.{length};
 ghost use lib.Seq.{sets};
-ghost use Rattle.exams.specs.File.{entry, entryBytes, trailerBytes, empty};
+ghost use Rattle.exams.specs.File.{entry, entryBytes, trailerBytes};
 ghost use Rattle.exams.specs.Reading.{entriesAt};
 ghost use Rattle.exams.specs.Numbers.{createNumber, nextSlot, appendNumber};
-ghost use Rattle.exams.specs.Calls.{Changes, createsNumber, Appends};
+ghost use Rattle.exams.specs.Calls.{Creates, Appends};
 ghost use Rattle.exams.specs.Inside.{Entries, Adding, Adds};
 use crate::Made;
 use crate::Opened;
@@ -53,7 +53,7 @@ fn create_number(exam: u64, t: u32, room: usize) -> u32
 
 // Creates an empty file for an exam at the start of a buffer.
 pub fn create(file: &mut [u8], exam: u64, t: u32) -> Made
-    ensures { λ r. ⌜ Changes (createsNumber (now (file .entry)) exam t) (empty exam t) (now (file .entry)) r (now (file .exit)) ⌝ }
+    ensures { λ r. ⌜ Creates (now (file .entry)) exam t r (now (file .exit)) ⌝ }
 {
     let refusal = create_number(exam, t, file.len());
     if refusal != 0 {

@@ -6,7 +6,7 @@ use native.Mathlib.Omega.{arith}
 use native.Mathlib.Nat.{pow-suc, div-lt-iff-lt-mul}
 use lib.ListN.{length, getD, take, drop}
 use lib.Seq.{drop-cons, getD-drop}
-use Rattle.words.specs.Bytes.{lowBytes, number, field}
+use Rattle.words.specs.Bytes.{Bytes, lowBytes, number, field}
 use Rattle.words.proofs.Zeros.{pow-256-le}
 
 pub length-low : (k x : ℕ) → length (lowBytes k x) ≡ k
@@ -21,7 +21,7 @@ number-low (suc k) x h =
     rw (number-low k (x / 256) l) (omega arith)
 
 -- k bytes make a number below 256 ^ k
-pub number-below : (k : ℕ) (bs : List ℕ) → ((i : ℕ) → getD bs i 0 < 256) → number (take k bs) < 256 ^ k
+pub number-below : (k : ℕ) (bs : List ℕ) → Bytes bs → number (take k bs) < 256 ^ k
 number-below zero bs h = omega arith
 number-below (suc k) [] h = omega (arith, number-below k [] h, pow-suc 256 k)
 number-below (suc k) (b ∷ bs) h = rw pow-suc (omega (arith, number-below k bs (λ i. h (suc i)), h 0))

@@ -1,5 +1,5 @@
 // Tools on 64-bit words and on bytes, for the crates above. A tool's `requires` is met by the crate
-// that calls it; the calls of the store itself, in `blocks`, have none.
+// that calls it; the calls of the store itself, in `blocks` and `exams`, have none.
 ghost use mathlib.Core.Path.{_≡_};
 ghost use Prim.Native.Nat.{_+_, _≤_, _<_};
 ghost use lib.ListN.{length, replicate, take, drop};

@@ -33,6 +33,12 @@ fn open(file: &[u8], length: usize, exam: u64) {
     show::text(b"\n");
 }
 
+// Prints how long the tables are.
+fn tables(fcm: &[u64], dfcm: &[u64]) {
+    show::labelled(b", tables of ", fcm.len() as u64);
+    show::labelled(b" and ", dfcm.len() as u64);
+}
+
 // Appends words as a slot, and prints the answer.
 fn append(
     file: &mut [u8],
@@ -45,12 +51,29 @@ fn append(
     bench: &mut [u8],
 ) {
     show::labelled(b"append slot ", slot as u64);
+    show::labelled(b" to exam ", exam);
     show::text(b", words");
     show::few_words(words);
-    show::labelled(b", tables of ", fcm.len() as u64);
+    tables(fcm, dfcm);
     show::labelled(b", buffer ", file.len() as u64);
     show::labelled(b", bench ", bench.len() as u64);
     made(exams::append(file, length, exam, slot, words, fcm, dfcm, bench));
+}
+
+// Appends the one word 0 with tables of 2 words, and prints the answer.
+fn append_word(file: &mut [u8], length: usize, exam: u64, slot: u32, bench: &mut [u8]) {
+    let mut fcm = [7u64; 2];
+    let mut dfcm = [7u64; 2];
+    append(
+        file,
+        length,
+        exam,
+        slot,
+        &[0u64; 1],
+        &mut fcm,
+        &mut dfcm,
+        bench,
+    );
 }
 
 // Finds a slot, and prints its block.
@@ -64,16 +87,33 @@ fn find(file: &[u8], length: usize, exam: u64, slot: u32) {
     show::text(b"\n");
 }
 
-// Fetches a slot, and prints its words.
-fn fetch(file: &[u8], length: usize, exam: u64, slot: u32, fcm: &mut [u64], dfcm: &mut [u64]) {
-    let mut words = [0xEEu64; 8];
+// Fetches a slot into some room, and prints its words.
+fn fetch_into(
+    file: &[u8],
+    length: usize,
+    exam: u64,
+    slot: u32,
+    fcm: &mut [u64],
+    dfcm: &mut [u64],
+    words: &mut [u64],
+) {
     show::labelled(b"fetch slot ", slot as u64);
-    show::labelled(b", tables of ", fcm.len() as u64);
-    let r = exams::fetch(file, length, exam, slot, fcm, dfcm, &mut words);
+    show::labelled(b" of exam ", exam);
+    show::labelled(b" from ", length as u64);
+    show::text(b" bytes");
+    tables(fcm, dfcm);
+    show::labelled(b", room for ", words.len() as u64);
+    let r = exams::fetch(file, length, exam, slot, fcm, dfcm, words);
     show::labelled(b": answers ", r.number as u64);
     show::labelled(b", count ", r.count as u64);
-    show::words(show::first_words(&words, r.count));
+    show::words(show::first_words(words, r.count));
     show::text(b"\n");
+}
+
+// Fetches a slot into room for 8 words, and prints them.
+fn fetch(file: &[u8], length: usize, exam: u64, slot: u32, fcm: &mut [u64], dfcm: &mut [u64]) {
+    let mut words = [0xEEu64; 8];
+    fetch_into(file, length, exam, slot, fcm, dfcm, &mut words);
 }
 
 // The empty file of exam 7, the file of 53 bytes, and what it answers.
@@ -135,10 +175,11 @@ pub fn cut() {
     fetch(&file, 101, exam, 3, &mut fcm, &mut dfcm);
     open(&file, 56, exam);
     fetch(&file, 56, exam, 0x4030201, &mut fcm, &mut dfcm);
+    fetch(&file, 56, exam, 3, &mut fcm, &mut dfcm);
 }
 
-// What create refuses, and what open refuses of a length: beyond its buffer, under 32, over the limit
-// of the file, and the wrong exam numbers.
+// What create refuses, and what open refuses of a length: beyond its buffer, under 32, and not the
+// one stated; and the wrong exam numbers.
 pub fn refusals_to_open() {
     show::text(b"Refusals to create and open\n");
     let mut file = [0xEEu8; 128];
@@ -202,6 +243,21 @@ pub fn refusals_of_a_field() {
     changed(17, 7);
 }
 
+// A directory whose second slot is changed: equal to the first, and below it.
+pub fn slots_that_do_not_ascend() {
+    show::text(b"A file of two maps with its second slot changed\n");
+    let mut file = [0xEEu8; 128];
+    let mut bench = [0xEEu8; 17];
+    create(&mut file, 7, 1);
+    append_word(&mut file, 32, 7, 4, &mut bench);
+    append_word(&mut file, 53, 7, 5, &mut bench);
+    open(&file, 74, 7);
+    set(&mut file, 30, 4);
+    open(&file, 74, 7);
+    set(&mut file, 30, 3);
+    open(&file, 74, 7);
+}
+
 // Finding the lowest and the highest slot there is; another slot, and another exam number.
 pub fn refusals_to_find() {
     show::text(b"Refusals to find\n");
@@ -210,16 +266,7 @@ pub fn refusals_to_find() {
     let mut fcm = [7u64; 2];
     let mut dfcm = [7u64; 2];
     create(&mut file, 7, 1);
-    append(
-        &mut file,
-        32,
-        7,
-        0,
-        &[0u64; 1],
-        &mut fcm,
-        &mut dfcm,
-        &mut bench,
-    );
+    append_word(&mut file, 32, 7, 0, &mut bench);
     append(
         &mut file,
         53,
@@ -236,16 +283,26 @@ pub fn refusals_to_find() {
     find(&file, 75, 8, 0);
 }
 
+// The file of 53 bytes, and no room for its word.
+fn fetch_without_room() {
+    let mut file = [0xEEu8; 61];
+    let mut fcm = [7u64; 1024];
+    let mut dfcm = [7u64; 1024];
+    one_map(&mut file);
+    fetch_into(&file, 53, 7, 3, &mut fcm, &mut dfcm, &mut [0u64; 0]);
+}
+
 // The file of 53 bytes with 6 for the filler of its block.
 fn fetch_damaged() {
     let mut file = [0xEEu8; 61];
     one_map(&mut file);
     set(&mut file, 8, 0x76);
+    show::text(b"byte 8 is 118: ");
     fetch(&file, 53, 7, 3, &mut [7u64; 1024], &mut [7u64; 1024]);
 }
 
 // What fetch refuses: another exam number, another slot, tables that differ, tables of another size,
-// a block that isn't whole.
+// too little room, a block that isn't whole.
 pub fn refusals_to_fetch() {
     show::text(b"Refusals to fetch\n");
     let mut file = [0xEEu8; 128];
@@ -253,53 +310,38 @@ pub fn refusals_to_fetch() {
     let mut fcm = [7u64; 2];
     let mut dfcm = [7u64; 2];
     create(&mut file, 7, 1);
-    append(
-        &mut file,
-        32,
-        7,
-        5,
-        &[0u64; 1],
-        &mut fcm,
-        &mut dfcm,
-        &mut bench,
-    );
+    append_word(&mut file, 32, 7, 5, &mut bench);
     fetch(&file, 53, 8, 5, &mut fcm, &mut dfcm);
     fetch(&file, 53, 7, 6, &mut fcm, &mut dfcm);
     fetch(&file, 53, 7, 5, &mut [7u64; 1], &mut dfcm);
     fetch(&file, 53, 7, 5, &mut [7u64; 4], &mut [7u64; 4]);
     fetch(&file, 53, 7, 5, &mut fcm, &mut dfcm);
+    fetch_without_room();
     fetch_damaged();
 }
 
-// What append refuses: a slot that isn't above the last, tables of another size, and room that is one
-// byte short in the bench or in the buffer; then at exactly those limits.
+// What append refuses: another exam number, tables that differ, too many words, a slot that isn't
+// above the last, and room that is one byte short in the buffer or in the bench; then at exactly those
+// limits.
 pub fn refusals_to_append() {
     show::text(b"Refusals to append\n");
     let mut file = [0xEEu8; 61];
     let mut short = [0xEEu8; 60];
     let mut bench = [0xEEu8; 17];
-    let mut fcm = [7u64; 2];
-    let mut dfcm = [7u64; 2];
+    let mut one = [7u64; 1];
+    let mut two = [7u64; 2];
+    let mut also_two = [7u64; 2];
     create(&mut file, 7, 1);
     create(&mut short, 7, 1);
-    append(
-        &mut file,
-        32,
-        8,
-        3,
-        &[0u64; 1],
-        &mut fcm,
-        &mut dfcm,
-        &mut bench,
-    );
+    append_word(&mut file, 32, 8, 3, &mut bench);
     append(
         &mut file,
         32,
         7,
         3,
         &[0u64; 1],
-        &mut [7u64; 1],
-        &mut dfcm,
+        &mut one,
+        &mut two,
         &mut bench,
     );
     append(
@@ -308,58 +350,13 @@ pub fn refusals_to_append() {
         7,
         3,
         &[0u64; 65537],
-        &mut fcm,
-        &mut dfcm,
+        &mut two,
+        &mut also_two,
         &mut bench,
     );
-    append(
-        &mut short,
-        32,
-        7,
-        3,
-        &[0u64; 1],
-        &mut fcm,
-        &mut dfcm,
-        &mut bench,
-    );
-    append(
-        &mut file,
-        32,
-        7,
-        3,
-        &[0u64; 1],
-        &mut fcm,
-        &mut dfcm,
-        &mut [0u8; 16],
-    );
-    append(
-        &mut file,
-        32,
-        7,
-        3,
-        &[0u64; 1],
-        &mut fcm,
-        &mut dfcm,
-        &mut bench,
-    );
-    append(
-        &mut file,
-        53,
-        7,
-        3,
-        &[0u64; 1],
-        &mut fcm,
-        &mut dfcm,
-        &mut bench,
-    );
-    append(
-        &mut file,
-        53,
-        7,
-        2,
-        &[0u64; 1],
-        &mut fcm,
-        &mut dfcm,
-        &mut bench,
-    );
+    append_word(&mut short, 32, 7, 3, &mut bench);
+    append_word(&mut file, 32, 7, 3, &mut [0u8; 16]);
+    append_word(&mut file, 32, 7, 3, &mut bench);
+    append_word(&mut file, 53, 7, 3, &mut bench);
+    append_word(&mut file, 53, 7, 2, &mut bench);
 }

@@ -14,6 +14,7 @@ fn main() {
     file_cases::cut();
     file_cases::refusals_to_open();
     file_cases::refusals_of_a_field();
+    file_cases::slots_that_do_not_ascend();
     file_cases::refusals_to_find();
     file_cases::refusals_to_fetch();
     file_cases::refusals_to_append();

@@ -1,6 +1,6 @@
 use mathlib.Core.Path.{sym, _∙_}
 use native.Mathlib.Omega.{arith}
-use Rattle.exams.proofs.Writes.{creates, change-refused, create-done}
+use Rattle.exams.proofs.Writes.{create-takes, change-refused, create-done}
 use borrow.Author.Needs.{needs}
 use Rattle.exams.proofs.making.create.Statement.{statement}
 use Rattle.exams.proofs.making.create.Tie as tie
@@ -17,7 +17,7 @@ put-trailer-requires : tie.Need-put-trailer-requires
 put-trailer-requires c κs =
     let at-if1 = c .before in
     let at-create-number = at-if1 .before in
-    (creates _ _ _ (sym (at-create-number .create-number .ensures) ∙ at-if1 .if1 .left) .room-is, omega arith)
+    (create-takes _ _ _ (sym (at-create-number .create-number .ensures) ∙ at-if1 .if1 .left) .enough, omega arith)
 
 same-length : tie.Need-same-length
 same-length c = search needs
