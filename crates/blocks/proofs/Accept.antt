@@ -2,7 +2,7 @@
 use mathlib.Core.Path.{_≡_, refl, sym, ap, _∙_}
 use mathlib.Core.Bool.{true, false}
 use mathlib.Core.List.{List, _++_}
-use Prim.Native.Nat.{ℕ, _+_, _%_, _^_, _≤_, _<_}
+use Prim.Native.Nat.{ℕ, _+_, _%_, _≤_, _<_}
 use native.Mathlib.Omega.{arith}
 use lib.Dec.{eqb}
 use lib.ListN.{length, take, drop, length-append, length-drop}
@@ -10,8 +10,8 @@ use lib.Seq.{take-append-le, drop-append-le}
 use borrow.Author.Tests.{leb-true, le-leb, lt-leb, eqb-true, eqb-false, eq-eqb, ne-eqb}
 use Rattle.words.specs.Bytes.{number}
 use Rattle.words.proofs.Tests.{either}
-use Rattle.blocks.specs.Block.{block, worst, count, statedLength, residualsAt, countedCodes, lastHalf, residualLength, wordsIn}
-use Rattle.blocks.specs.Numbers.{afterwards, packNumber, fillerStands, blockNumber, unpackNumber, tOf}
+use Rattle.blocks.specs.Block.{block, count, statedLength, residualsAt, countedCodes, lastHalf, residualLength}
+use Rattle.blocks.specs.Numbers.{packNumber, fillerStands, blockNumber, unpackNumber, tOf}
 use Rattle.blocks.specs.Calls.{packed, packsNumber, Packs, checked, unpacked, unpacksNumber, Unpacks}
 use Rattle.blocks.specs.Inside.{Packable, PacksAll, Counted, Unpackable, UnpacksAll}
 use Rattle.blocks.specs.declared.Packed.{Packed}

@@ -4,7 +4,7 @@ use mathlib.Core.Logic.{_↔_}
 use mathlib.Core.List.{List, [], _∷_, _++_, map}
 use Prim.Native.Nat.{ℕ, _+_, _*_, _%_, _^_, _≤_, _<_}
 use native.Mathlib.Omega.{arith}
-use lib.Count.{leadingZeros, trailingZeros}
+use lib.Count.{leadingZeros}
 use lib.ListN.{length, take, drop, length-drop, take-append-drop}
 use Rattle.words.specs.Words.{Words, add64, sub64, shiftedLeft, shiftedRight, lowBits, xor, zeroBytes}
 use Rattle.blocks.specs.Predictors.{cleared, fcmPrediction, dfcmPrediction, difference, nextFcmHash, nextDfcmHash, learn}

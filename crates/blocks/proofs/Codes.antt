@@ -1,16 +1,16 @@
 -- The code of a word: the table, the choice, what is written. Nothing else opens these definitions.
-use mathlib.Core.Path.{_≡_, refl, sym, ap, _∙_, subst}
+use mathlib.Core.Path.{_≡_, refl, ap}
 use mathlib.Core.Bool.{Bool, true, false, cond}
-use mathlib.Core.List.{List, [], _∷_}
-use Prim.Native.Nat.{ℕ, zero, suc, _+_, _-_, _%_, _^_, max, _≤_, _<_}
+use mathlib.Core.List.{[], _∷_}
+use Prim.Native.Nat.{ℕ, zero, suc, _+_, _-_, _%_, _^_, _≤_, _<_}
 use native.Mathlib.Omega.{arith}
 use native.Mathlib.Nat.{lt-of-lt-of-le, zero-add}
 use lib.Dec.{ltb}
 use lib.ListN.{getD}
-use borrow.Author.Tests.{ltb-true, ltb-false, lt-ltb, le-ltb}
+use borrow.Author.Tests.{ltb-true, ltb-false}
 use Rattle.words.specs.Words.{zeroBytes}
 use Rattle.words.proofs.Tests.{either}
-use Rattle.words.proofs.Zeros.{zeros-at-most, zeros-within, zeros-of-fit, pow-256-le}
+use Rattle.words.proofs.Zeros.{zeros-at-most, zeros-within, pow-256-le}
 use Rattle.blocks.specs.Predictors.{Memory}
 use Rattle.blocks.specs.Codes.{dfcmChosen, lowThree, written, codedBy, chosen, codedWord, fcmResidual, dfcmResidual}
 use Rattle.blocks.specs.declared.Coded.{Coded}

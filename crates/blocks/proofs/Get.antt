@@ -6,20 +6,16 @@ use Prim.Native.Nat.{ℕ, zero, suc, min, _+_, _-_, _*_, _/_, _%_, _≤_, _<_}
 use native.Mathlib.Omega.{arith}
 use native.Mathlib.Numerals.{add-one}
 use lib.Dec.{eqb}
-use lib.ListN.{length, getD, set, take, drop, length-take, length-drop, length-set, drop-of-length-le}
-use lib.Seq.{sets, drop-cons, drop-drop, getD-drop, getD-take, length-sets}
+use lib.ListN.{length, getD, take, drop, length-take, length-drop, drop-of-length-le}
+use lib.Seq.{drop-cons, getD-drop, getD-take}
 use borrow.Author.Tests.{eq-eqb, ne-eqb}
-use Rattle.words.specs.Bytes.{field}
-use Rattle.blocks.specs.Predictors.{Memory, cleared, learn, after}
+use Rattle.blocks.specs.Predictors.{Memory, learn, after}
 use Rattle.blocks.specs.Codes.{written, decodedWord, decodedWords}
-use Rattle.blocks.specs.Block.{count, halves, countedCodes, lastHalf, residualLength, withResiduals, residualsAt, wordsIn}
-use Rattle.blocks.specs.Numbers.{tOf, fillerStands, blockNumber}
-use Rattle.blocks.specs.Inside.{memory, Ready, Decodes, Counted, Getting, Gets}
+use Rattle.blocks.specs.Block.{count, halves, countedCodes, lastHalf, residualLength, withResiduals}
+use Rattle.blocks.specs.Numbers.{fillerStands}
+use Rattle.blocks.specs.Inside.{Counted}
 use Rattle.blocks.specs.declared.Coded.{Coded}
-use Rattle.blocks.specs.declared.predict.Carry.{Carry}
-use Rattle.blocks.specs.declared.reading.Back.{Back}
 use Rattle.blocks.proofs.Codes.{written-small}
-use Rattle.blocks.proofs.Learn.{start, cleared-is, ready-start, ready-learn}
 
 -- ---- halves
 

@@ -18,7 +18,7 @@ use Rattle.blocks.specs.declared.reading.Back.{Back}
 use Rattle.blocks.proofs.Checks.{sets-over}
 use Rattle.blocks.proofs.Learn.{start, cleared-is, cleared-of, ready-start, ready-learn}
 use Rattle.blocks.proofs.Get.{counted-next, counted-none, length-counted, length-with, length-decoded}
-use Rattle.blocks.proofs.Accept.{Whole, whole, counted}
+use Rattle.blocks.proofs.Accept.{whole, counted}
 
 -- the codes and residuals from code i and the byte at a place on
 abbrev pub rest : List ℕ → ℕ → ℕ → List Coded

@@ -1,8 +1,7 @@
 -- Putting words one after another leaves the block's bytes.
 use mathlib.Core.Path.{_≡_, refl, sym, ap, _∙_}
 use mathlib.Core.List.{List, [], _∷_, _++_}
-use mathlib.Core.Bool.{cond}
-use Prim.Native.Nat.{ℕ, zero, suc, _+_, _*_, _/_, _%_, _≤_, _<_}
+use Prim.Native.Nat.{ℕ, suc, _+_, _*_, _/_, _%_, _≤_}
 use native.Mathlib.Omega.{arith}
 use lib.ListN.{length, set, length-append}
 use lib.Seq.{sets, set-set}
@@ -11,7 +10,7 @@ use Rattle.words.specs.Bytes.{lowBytes}
 use Rattle.words.proofs.Bytes.{length-low}
 use Rattle.words.proofs.Stores.{sets-append, set-sets, sets-sets}
 use Rattle.blocks.specs.Predictors.{Memory, cleared, learn}
-use Rattle.blocks.specs.Codes.{written, residualBytes, codedWord, codedWords}
+use Rattle.blocks.specs.Codes.{written, residualBytes, codedWords}
 use Rattle.blocks.specs.Block.{codes, codeBytes, allResidualBytes, body, block, residualsAt, worst}
 use Rattle.blocks.specs.Numbers.{over}
 use Rattle.blocks.specs.Inside.{codeByte, putWord}

@@ -1,7 +1,7 @@
 -- The loop that puts words: what holds at its head, where it starts, after a turn and at its end.
 use mathlib.Core.Path.{_≡_, refl, sym, ap, _∙_}
 use mathlib.Core.List.{List, [], _∷_, _++_}
-use Prim.Native.Nat.{ℕ, _+_, _*_, _/_, _≤_, _<_}
+use Prim.Native.Nat.{ℕ, _+_, _*_, _≤_, _<_}
 use native.Mathlib.Omega.{arith}
 use native.Mathlib.Nat.{add-zero}
 use native.Mathlib.Numerals.{add-one}
@@ -10,10 +10,9 @@ use lib.Seq.{sets, drop-cons, length-sets}
 use Rattle.words.specs.Bytes.{lowBytes}
 use Rattle.blocks.specs.Predictors.{Memory, cleared, learn, after}
 use Rattle.blocks.specs.Codes.{written, codedWord, codedWords}
-use Rattle.blocks.specs.Block.{allResidualBytes, residualsAt, worst, block}
+use Rattle.blocks.specs.Block.{allResidualBytes, residualsAt, block}
 use Rattle.blocks.specs.Numbers.{tOf}
 use Rattle.blocks.specs.Inside.{memory, Ready, Codes, Room, putWord, Putting, Puts, Packable, PacksAll}
-use Rattle.blocks.specs.declared.Coded.{Coded}
 use Rattle.blocks.specs.declared.predict.Carry.{Carry}
 use Rattle.blocks.specs.declared.packing.Step.{Step}
 use Rattle.blocks.proofs.Codes.{coded-small, written-small}

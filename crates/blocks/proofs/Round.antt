@@ -1,28 +1,28 @@
 -- Reading back what packing writes gives the words.
-use mathlib.Core.Path.{_≡_, refl, sym, ap, ap₂, _∙_}
+use mathlib.Core.Path.{_≡_, refl, sym, ap, _∙_}
 use mathlib.Core.List.{List, [], _∷_, _++_}
-use mathlib.Core.Bool.{Bool, true, false, cond}
+use mathlib.Core.Bool.{true, false}
 use Prim.Native.Nat.{ℕ, zero, suc, _+_, _*_, _/_, _%_, _^_, _≤_, _<_}
 use native.Mathlib.Omega.{arith}
-use lib.Dec.{ltb, eqb}
-use lib.ListN.{length, getD, set, take, drop, replicate, length-append}
+use lib.Dec.{eqb}
+use lib.ListN.{length, getD, set, take, drop, replicate}
 use lib.Seq.{take-at, drop-at, drop-drop, take-append-seam}
 use borrow.Author.Tests.{lt-ltb, le-ltb, eqb-true}
 use Rattle.words.specs.Words.{Words, xor, sub64, add64, zeroBytes}
-use Rattle.words.specs.Bytes.{lowBytes, number}
+use Rattle.words.specs.Bytes.{number}
 use Rattle.words.proofs.Tests.{either}
 use Rattle.words.proofs.Xor.{xor-back, xor-word}
-use Rattle.words.proofs.Bytes.{length-low, number-low}
+use Rattle.words.proofs.Bytes.{number-low}
 use Rattle.words.proofs.Zeros.{zeros-at-most}
 use Rattle.blocks.specs.Predictors.{Memory, cleared, fcmPrediction, dfcmPrediction, difference, learn}
 use Rattle.blocks.specs.Codes.{fcmResidual, dfcmResidual, dfcmChosen, lowThree, written, codedBy, chosen, codedWord, codedWords, residualBytes, namedPrediction, decodedWord, decodedWords}
-use Rattle.blocks.specs.Block.{codes, codeBytes, allResidualBytes, body, block, residualsAt, worst, count, statedLength, halves, countedCodes, lastHalf, residualLength, withResiduals, wordsIn}
+use Rattle.blocks.specs.Block.{codes, codeBytes, allResidualBytes, body, block, residualsAt, count, statedLength, halves, countedCodes, lastHalf, residualLength, withResiduals, wordsIn}
 use Rattle.blocks.specs.Numbers.{fillerStands, blockNumber}
 use Rattle.blocks.specs.Inside.{PacksAll}
 use Rattle.blocks.specs.declared.Coded.{Coded}
 use Rattle.blocks.proofs.Codes.{low-three-small, coded-small, coded-by-fits}
 use Rattle.blocks.proofs.Put.{length-residual, length-residuals, length-codes, length-coded, length-code-bytes, length-body, length-block, block-at-most}
-use Rattle.blocks.proofs.Accept.{Whole, whole-checks}
+use Rattle.blocks.proofs.Accept.{whole-checks}
 
 -- ---- one word
 

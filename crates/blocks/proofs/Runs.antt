@@ -5,7 +5,7 @@ use mathlib.Core.Bool.{or-true}
 use Prim.Native.Nat.{ℕ, zero, suc, _+_, _*_, _/_, _%_, _^_, _≤_, _<_}
 use native.Mathlib.Omega.{arith}
 use lib.Dec.{eqb}
-use lib.ListN.{length, getD, set}
+use lib.ListN.{length, getD}
 use lib.Seq.{getD-set-same, getD-append-add}
 use borrow.Author.Tests.{eqb-true, lt-leb}
 use Rattle.words.specs.Words.{Words, add64, sub64, shiftedRight}

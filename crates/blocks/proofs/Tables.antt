@@ -1,15 +1,14 @@
 -- A table's length and its t. Nothing else opens `tOf` and `isTableLength`.
-use mathlib.Core.Path.{_≡_, refl, sym, ap, _∙_, subst}
+use mathlib.Core.Path.{_≡_, refl, sym, ap, _∙_}
 use mathlib.Core.Bool.{Bool, true, false, _&&_}
-use Prim.Native.Nat.{ℕ, zero, suc, _+_, _-_, _*_, _/_, _%_, _^_, _≤_, _<_}
+use Prim.Native.Nat.{ℕ, zero, suc, _-_, _*_, _/_, _%_, _^_, _≤_, _<_}
 use native.Mathlib.Omega.{arith}
-use native.Mathlib.Nat.{pow-suc, mod-eq-of-lt}
-use lib.Count.{trailingZeros, under}
+use native.Mathlib.Nat.{pow-suc}
+use lib.Count.{trailingZeros}
 use lib.Dec.{leb, eqb}
-use lib.Pow.{pow-mono, pow-pos, shl-exact}
+use lib.Pow.{pow-pos, shl-exact}
 use borrow.Author.Tests.{leb-true, eqb-true, le-leb, eq-eqb, lt-leb}
-use Rattle.words.proofs.Tests.{either}
-use Rattle.blocks.specs.Numbers.{tOf, isTableLength, unless, firstFailure, tablesNumber}
+use Rattle.blocks.specs.Numbers.{tOf, isTableLength, tablesNumber}
 use Rattle.blocks.specs.Inside.{Sized}
 use Rattle.blocks.proofs.Checks.{unless-passes, unless-holds, all-pass, fails-later, none-fails}
 
@@ -31,9 +30,6 @@ pub sized-power : (t f d : ℕ) → t ≤ 16 → f ≡ 2 ^ t → d ≡ f → Siz
 sized-power t f d h e s =
     let q : tOf f ≡ t = ap tOf e ∙ t-of-power t h in
     record { small = rw q h; power = rw q e; same = s }
-
-pub sized-few : (f d : ℕ) → Sized f d → f ≤ 65536
-sized-few f d s = omega (arith, s .power, pow-mono {i = tOf f} {j = 16} (s .small))
 
 pub sized-some : (f d : ℕ) → Sized f d → 0 < f
 sized-some f d s = omega (arith, s .power, pow-pos (tOf f))

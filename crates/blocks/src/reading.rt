@@ -2,7 +2,7 @@
 ghost use mathlib.Core.Path.{_≡_};
 ghost use Prim.Native.Nat.{_+_, _/_, _≤_, _<_};
 ghost use lib.ListN.{length, getD, drop};
-ghost use Rattle.blocks.specs.Block.{count, halves, countedCodes, residualsAt, residualLength};
+ghost use Rattle.blocks.specs.Block.{count, halves, countedCodes, residualLength};
 ghost use Rattle.blocks.specs.Codes.{namedPrediction};
 ghost use Rattle.blocks.specs.Numbers.{tOf, fillerStands, blockNumber, unpackNumber};
 ghost use Rattle.blocks.specs.Calls.{checked, Unpacks};

@@ -1,7 +1,6 @@
 -- When each call on a file answers 0, in terms of what it is given.
-use mathlib.Core.Path.{_≡_, refl, sym, ap, _∙_}
+use mathlib.Core.Path.{_≡_, sym, ap, _∙_}
 use mathlib.Core.List.{List, [], _∷_}
-use mathlib.Core.Bool.{true}
 use Prim.Native.Nat.{ℕ, zero, suc, min, _+_, _*_, _^_, _≤_, _<_}
 use native.Mathlib.Omega.{arith}
 use lib.Dec.{eqb}
@@ -17,15 +16,14 @@ use Rattle.blocks.specs.declared.Unpacked.{Unpacked}
 use Rattle.blocks.proofs.Checks.{unless-passes, unless-holds, none-fails, fails-later, last-decides, all-pass, passes, afterwards-new, afterwards-old}
 use Rattle.exams.specs.File.{Entry, entry, File, mark}
 use Rattle.exams.specs.Reading.{markIn, editionIn, tIn, examIn, distanceIn, entriesIn, lengthIn, fileIn, indexOf}
-use Rattle.exams.specs.Numbers.{mostBytes, editionKnown, joins, entriesNumber, directoryNumber, openInNumber, findNumber, blockIn, fileTablesNumber, fetchNumber, createNumber, nextSlot, appendNumber, appendNumberTo}
+use Rattle.exams.specs.Numbers.{mostBytes, entriesNumber, directoryNumber, openInNumber, findNumber, blockIn, fileTablesNumber, fetchNumber, createNumber, nextSlot, appendNumber}
 use Rattle.exams.specs.Calls.{trailerOf, opened, openedNumber, fetchesNumber, Fetches, made, Changes, appendsNumber}
 use Rattle.exams.specs.declared.Made.{Made}
-use Rattle.exams.specs.declared.Opened.{Opened}
-use Rattle.exams.specs.declared.Opened.the-variants.{Done, Refused}
+use Rattle.exams.specs.declared.Opened.the-variants.{Done}
 use Rattle.exams.proofs.Writes.{CreateTakes}
-use Rattle.exams.proofs.Directory.{Heads, heads, heads-keep, joins-equal, equal-joins, edition-is, edition-one}
-use Rattle.exams.proofs.Opens.{Trails, Opens, OpensIn, opens-in, opens-in-keep, t-in}
-use Rattle.exams.proofs.Grow.{Clear, clear}
+use Rattle.exams.proofs.Directory.{heads, heads-keep, joins-equal, equal-joins, edition-is, edition-one}
+use Rattle.exams.proofs.Opens.{opens-in, opens-in-keep, t-in}
+use Rattle.exams.proofs.Grow.{clear}
 
 -- ---- the directory's rule, in words that need no check
 

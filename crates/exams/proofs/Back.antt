@@ -2,12 +2,12 @@
 use mathlib.Core.Path.{_≡_, refl, sym, ap, ap₂, _∙_}
 use mathlib.Core.List.{List, [], _∷_, _++_, append-assoc}
 use mathlib.Core.Bool.{true}
-use Prim.Native.Nat.{ℕ, zero, suc, _+_, _-_, _*_, _^_, _≤_, _<_}
+use Prim.Native.Nat.{ℕ, _+_, _-_, _*_, _^_, _≤_, _<_}
 use native.Mathlib.Omega.{arith}
 use native.Mathlib.Nat.{add-zero}
 use lib.ListN.{length, take, drop, length-append}
-use lib.Seq.{take-at, drop-at, drop-append-add, take-append-seam}
-use Rattle.words.specs.Bytes.{number, lowBytes, field, sameBytes}
+use lib.Seq.{take-at, drop-at, drop-append-add}
+use Rattle.words.specs.Bytes.{number, field}
 use Rattle.words.proofs.Bytes.{number-low}
 use Rattle.words.proofs.Moves.{equal-same}
 use Rattle.exams.specs.File.{Entry, entry, entryBytes, directoryBytes, mark, trailerBytes, File, fileLength, fileBytes}
@@ -15,7 +15,7 @@ use Rattle.exams.specs.Reading.{trailerAt, markIn, editionIn, tIn, examI
 use Rattle.exams.specs.Numbers.{mostBytes, editionKnown, directoryNumber, openInNumber}
 use Rattle.exams.proofs.Directory.{edition-small}
 use Rattle.exams.proofs.Opens.{Trails, Opens, opens-in-keep}
-use Rattle.exams.proofs.Writes.{length-trailer, length-entry, length-directory, length-file}
+use Rattle.exams.proofs.Writes.{length-entry, length-directory, length-file}
 
 -- an entry that fits its fields
 pub record Small (e : Entry) : Type 0 where

@@ -1,32 +1,30 @@
 -- What is promised of create, open, find, fetch and append, each promise with one line of plain words.
-use mathlib.Core.Path.{_≡_, refl, sym, ap, _∙_, subst}
+use mathlib.Core.Path.{_≡_, refl, sym, ap, _∙_}
 use mathlib.Core.Logic.{_↔_}
 use mathlib.Core.List.{List, [], _∷_, _++_}
-use Prim.Native.Nat.{ℕ, zero, suc, min, _+_, _*_, _^_, _≤_, _<_}
+use Prim.Native.Nat.{ℕ, _+_, _^_, _≤_, _<_}
 use native.Mathlib.Omega.{arith}
-use lib.ListN.{length, getD, take, List·getD-append}
+use lib.ListN.{length, getD, take}
 use lib.Seq.{take-take}
-use borrow.Author.Tests.{leb-true, ltb-true, eqb-true, le-leb, lt-ltb, eq-eqb}
 use Rattle.words.specs.Words.{Words}
 use Rattle.words.specs.Bytes.{Bytes}
-use Rattle.words.proofs.Moves.{same-equal, equal-same}
-use Rattle.blocks.specs.Block.{block, count, worst}
-use Rattle.blocks.specs.Numbers.{over, afterwards, blockNumber}
+use Rattle.blocks.specs.Block.{block, count}
+use Rattle.blocks.specs.Numbers.{over, blockNumber}
 use Rattle.blocks.specs.Calls.{unpacked}
 use Rattle.blocks.specs.declared.Unpacked.{Unpacked}
 use Rattle.blocks.proofs.Checks.{afterwards-new, afterwards-old}
-use Rattle.exams.specs.File.{Entry, entry, File, mark, fileLength, fileBytes, blockOf, empty, appended}
-use Rattle.exams.specs.Reading.{markIn, editionIn, tIn, examIn, distanceIn, entriesIn, lengthIn, fileIn, indexOf, entryOf}
-use Rattle.exams.specs.Numbers.{mostBytes, directoryNumber, openInNumber, findNumber, blockIn, fetchNumber, createNumber, nextSlot}
-use Rattle.exams.specs.Calls.{opened, openedNumber, openedT, openedEntries, openedStart, trailerOf, Finds, fetchesNumber, Fetches, made, Changes, Creates, appendsNumber, Appends}
+use Rattle.exams.specs.File.{entry, File, fileLength, fileBytes, blockOf, empty, appended}
+use Rattle.exams.specs.Reading.{tIn, examIn, distanceIn, entriesIn, lengthIn, fileIn, entryOf}
+use Rattle.exams.specs.Numbers.{directoryNumber, findNumber, blockIn}
+use Rattle.exams.specs.Calls.{opened, openedNumber, openedT, openedEntries, openedStart, Finds, fetchesNumber, Fetches, made, Changes, Creates, appendsNumber, Appends}
 use Rattle.exams.specs.Maps.{Map, fileOf}
 use Rattle.exams.specs.declared.Made.{Made}
 use Rattle.exams.specs.declared.Opened.{Opened}
 use Rattle.exams.specs.declared.Opened.the-variants.{Done, Refused}
 use Rattle.exams.proofs.Opens.{opens-in, t-in, body-long, entries-many}
-use Rattle.exams.proofs.Accept.{Follows, directory-follows, SlotIn, OpenTakes, open-takes, takes-open, FindTakes, find-takes, takes-find, FetchTakes, fetch-takes, takes-fetch, takes-create, AppendTakes, append-takes, takes-append, follows-directory, opened-number, opened-done, fetches-number, changes-number, changes-none}
+use Rattle.exams.proofs.Accept.{Follows, directory-follows, OpenTakes, open-takes, takes-open, FindTakes, find-takes, takes-find, FetchTakes, fetch-takes, takes-fetch, takes-create, AppendTakes, append-takes, takes-append, follows-directory, opened-number, opened-done, fetches-number, changes-number, changes-none}
 use Rattle.exams.proofs.Writes.{CreateTakes, create-takes, length-file}
-use Rattle.exams.proofs.Maps.{Holds, holds-length, holds-parts, holds-opens, map-found, map-block, created-holds, appended-clear, appended-holds, maps-open, map-answer, map-words, FitMap, Fit, none-fit, fit-more, fit-at}
+use Rattle.exams.proofs.Maps.{Holds, holds-length, holds-parts, map-found, map-block, created-holds, appended-clear, appended-holds, maps-open, map-answer, map-words, Fit, none-fit, fit-more, fit-at}
 use Rattle.exams.proofs.Cut.{never}
 use Rattle.exams.proofs.Kept.{found-long, more-holds, more-opens, slot-kept}
 

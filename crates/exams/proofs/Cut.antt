@@ -3,26 +3,23 @@
 -- would have to be the mark.
 use mathlib.Core.Path.{_≡_, refl, sym, ap, _∙_}
 use mathlib.Core.List.{List, [], _∷_, _++_, append-assoc}
-use mathlib.Core.Bool.{true}
-use Prim.Native.Nat.{ℕ, zero, suc, _+_, _-_, _*_, _^_, _≤_, _<_}
+use Prim.Native.Nat.{ℕ, zero, suc, _+_, _-_, _*_, _≤_, _<_}
 use native.Mathlib.Omega.{arith}
-use native.Mathlib.Nat.{add-zero}
 use lib.ListN.{length, getD, take, drop, length-append, length-drop}
 use lib.Seq.{drop-drop, drop-append-seam, length-take-le, take-append-le}
-use Rattle.words.specs.Bytes.{number, field, lowBytes}
-use Rattle.words.proofs.Bytes.{number-low}
+use Rattle.words.specs.Bytes.{number, field}
 use Rattle.words.proofs.Moves.{same-equal}
 use Rattle.blocks.specs.Block.{block, count, statedLength}
 use Rattle.blocks.specs.Numbers.{blockNumber}
 use Rattle.blocks.proofs.Accept.{whole, stated-first}
 use Rattle.blocks.proofs.Checks.{unless-holds}
-use Rattle.blocks.proofs.Round.{block-count, block-whole}
-use Rattle.exams.specs.File.{Entry, entry, entryBytes, directoryBytes, mark, trailerBytes, File, fileLength, fileBytes, blockOf}
-use Rattle.exams.specs.Reading.{markIn, directoryAt, distanceIn, entriesIn, entryAt, entriesAt, fileIn}
-use Rattle.exams.specs.Numbers.{entriesNumber, directoryNumber}
+use Rattle.blocks.proofs.Round.{block-whole}
+use Rattle.exams.specs.File.{Entry, entry, entryBytes, directoryBytes, mark, trailerBytes, fileLength, fileBytes, blockOf}
+use Rattle.exams.specs.Reading.{markIn, directoryAt, entriesIn, entryAt, entriesAt, fileIn}
+use Rattle.exams.specs.Numbers.{entriesNumber}
 use Rattle.exams.specs.Maps.{Map, blocksOf, entriesOf, fileOf}
 use Rattle.exams.proofs.Directory.{heads, joins-equal, ends-before, length-entries}
-use Rattle.exams.proofs.Opens.{Trails, Opens, trails-ends, body-long, entries-many, directory-is}
+use Rattle.exams.proofs.Opens.{Opens, trails-ends, directory-is}
 use Rattle.exams.proofs.Parts.{part-of-first}
 use Rattle.exams.proofs.Writes.{length-trailer, length-directory, length-file}
 use Rattle.exams.proofs.Back.{Good}

@@ -1,16 +1,14 @@
 -- The directory: its entries one by one, and its rule. Nothing else opens `joins`, `editionKnown` and `directoryNumber`.
 use mathlib.Core.Path.{_≡_, refl, sym, ap, _∙_}
 use mathlib.Core.List.{List, [], _∷_, _++_}
-use mathlib.Core.Bool.{Bool, true, false}
+use mathlib.Core.Bool.{true, false}
 use Prim.Native.Nat.{ℕ, zero, suc, _+_, _-_, _*_, _^_, _≤_, _<_}
 use native.Mathlib.Omega.{arith}
 use native.Mathlib.Nat.{sub-zero}
 use lib.ListN.{length, getD, length-append}
-use lib.Seq.{length-take-le}
 use borrow.Author.Tests.{lt-leb, le-leb, leb-true, eqb-true, eq-eqb}
 use Rattle.words.specs.Bytes.{field}
-use Rattle.blocks.specs.Numbers.{unless, firstFailure}
-use Rattle.blocks.proofs.Checks.{unless-passes, unless-fails, unless-holds, fails-later, none-fails, last-decides, all-pass, passes, stops}
+use Rattle.blocks.proofs.Checks.{unless-passes, unless-fails, unless-holds, none-fails, last-decides, passes, stops}
 use Rattle.exams.specs.File.{Entry, entry, File, empty, appended}
 use Rattle.exams.specs.Reading.{entryAt, entriesAt}
 use Rattle.exams.specs.Numbers.{editionKnown, joins, entriesNumber, directoryNumber, nextSlot}

@@ -3,14 +3,13 @@ use mathlib.Core.Path.{_≡_, refl, sym, ap, ap₂, _∙_}
 use mathlib.Core.List.{List, [], _∷_, _++_, append-assoc, append-nil}
 use Prim.Native.Nat.{ℕ, zero, suc, min, _+_, _-_, _*_, _/_, _%_, _^_, _≤_, _<_}
 use native.Mathlib.Omega.{arith}
-use lib.ListN.{length, getD, take, drop, length-append, length-take, length-drop}
+use lib.ListN.{length, getD, take, drop, length-append, length-drop}
 use lib.Seq.{sets, sets-eq, take-take, take-add, drop-drop, length-take-le, take-append-seam}
 use borrow.Author.Tests.{leb-true, ltb-true, eqb-true}
 use Rattle.words.specs.Bytes.{Bytes, lowBytes, number, field}
 use Rattle.words.proofs.Stores.{sets-sets}
-use Rattle.blocks.specs.Predictors.{cleared, after}
 use Rattle.blocks.specs.Block.{block, worst}
-use Rattle.blocks.specs.Numbers.{firstFailure, afterwards, over, tOf}
+use Rattle.blocks.specs.Numbers.{over, tOf}
 use Rattle.blocks.specs.Inside.{Packable, PacksAll}
 use Rattle.blocks.proofs.Checks.{unless-holds, none-fails, fails-here, fails-later, last-decides, afterwards-new, afterwards-old}
 use Rattle.blocks.proofs.Tables.{sized-power, t-of-power}
@@ -18,15 +17,14 @@ use Rattle.blocks.proofs.Put.{block-at-most}
 use Rattle.blocks.proofs.Round.{written-block}
 use Rattle.exams.specs.File.{Entry, entry, entryBytes, directoryBytes, trailerBytes, File, fileLength, fileBytes, blockOf, appended}
 use Rattle.exams.specs.Reading.{entryAt, entriesAt, entriesIn, directoryAt, fileIn}
-use Rattle.exams.specs.Numbers.{mostBytes, directoryNumber, openInNumber, fileTablesNumber, nextSlot, appendNumber, appendNumberTo}
-use Rattle.exams.specs.Calls.{trailerOf, opened, openedNumber, Changes, appendsNumber, Appends}
+use Rattle.exams.specs.Numbers.{mostBytes, directoryNumber, fileTablesNumber, nextSlot, appendNumber}
+use Rattle.exams.specs.Calls.{opened, openedNumber, appendsNumber, Appends}
 use Rattle.exams.specs.Inside.{Standing, Adding, Adds}
-use Rattle.exams.specs.declared.Made.{Made}
 use Rattle.exams.specs.declared.Trailer.{Trailer}
 use Rattle.exams.specs.declared.Opened.{Opened}
 use Rattle.exams.specs.declared.Opened.the-variants.{Done, Refused}
 use Rattle.exams.proofs.Directory.{length-entries, block-within}
-use Rattle.exams.proofs.Opens.{OpensIn, opens-in, trails-ends, body-long, entries-many, refused-tells, done-tells, standing}
+use Rattle.exams.proofs.Opens.{opens-in, trails-ends, refused-tells, done-tells, standing}
 use Rattle.exams.proofs.Parts.{start-is, many-is, entries-are, t-small, part-of-first}
 use Rattle.exams.proofs.Writes.{join, length-trailer, length-entry, length-file, change-refused, change-done}
 

@@ -1,8 +1,7 @@
 -- An accepted append keeps what was there, in any file that opens.
-use mathlib.Core.Path.{_≡_, refl, sym, ap, ap₂, _∙_}
+use mathlib.Core.Path.{_≡_, refl, sym, ap, _∙_}
 use mathlib.Core.List.{List, [], _∷_, _++_}
-use mathlib.Core.Bool.{cond, true, false}
-use Prim.Native.Nat.{ℕ, zero, suc, _+_, _-_, _*_, _^_, _≤_, _<_}
+use Prim.Native.Nat.{ℕ, zero, suc, _+_, _-_, _^_, _≤_, _<_}
 use native.Mathlib.Omega.{arith}
 use lib.Dec.{eqb}
 use lib.ListN.{length, getD, take, drop, length-append, length-take, length-drop, List·getD-append}
@@ -20,8 +19,8 @@ use Rattle.exams.specs.Calls.{appendsNumber, Appends}
 use Rattle.exams.specs.declared.Made.{Made}
 use Rattle.exams.proofs.Directory.{block-within, block-long}
 use Rattle.exams.proofs.Opens.{Opens, opens-in, trails-ends, t-in, body-long, entries-many}
-use Rattle.exams.proofs.Grow.{Clear, clear, bytes-take, bytes-drop, block-kept}
-use Rattle.exams.proofs.Back.{Small, Smalls, none, more, Good}
+use Rattle.exams.proofs.Grow.{clear, bytes-take, bytes-drop, block-kept}
+use Rattle.exams.proofs.Back.{Smalls, none, more, Good}
 use Rattle.exams.proofs.Maps.{good-more, Holds, holds-parts, holds-opens, changed-holds}
 use Rattle.exams.proofs.Accept.{changes-number}
 

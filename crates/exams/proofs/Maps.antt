@@ -1,16 +1,13 @@
 -- Files made by create and appends are the files of their maps.
-use mathlib.Core.Path.{_≡_, refl, sym, ap, ap₂, _∙_, subst}
+use mathlib.Core.Path.{_≡_, refl, sym, ap, _∙_, subst}
 use mathlib.Core.List.{List, [], _∷_, _++_, append-assoc, append-nil}
-use mathlib.Core.Bool.{cond, true, false}
-use Prim.Native.Nat.{ℕ, zero, suc, _+_, _-_, _*_, _^_, _≤_, _<_}
+use Prim.Native.Nat.{ℕ, suc, _+_, _-_, _^_, _≤_, _<_}
 use native.Mathlib.Omega.{arith}
 use native.Mathlib.Nat.{add-zero, zero-add}
-use lib.Dec.{eqb}
 use lib.ListN.{length, getD, take, drop, length-append}
 use lib.Seq.{take-at, length-take-le, take-append-seam, drop-append-seam}
 use borrow.Author.Tests.{eq-eqb, ne-eqb, lt-ltb, le-leb}
 use Rattle.words.specs.Words.{Words}
-use Rattle.words.proofs.Tests.{either}
 use Rattle.blocks.specs.Block.{block, count}
 use Rattle.blocks.specs.Numbers.{over, blockNumber}
 use Rattle.blocks.specs.Calls.{unpacked}

@@ -1,7 +1,7 @@
 -- Opening: what a number of 0 tells, and what is read then.
 use mathlib.Core.Path.{_≡_, refl, sym, ap, _∙_}
-use mathlib.Core.List.{List, [], _∷_}
-use mathlib.Core.Bool.{Bool, true, false}
+use mathlib.Core.List.{List}
+use mathlib.Core.Bool.{Bool, true}
 use Prim.Native.Nat.{ℕ, _+_, _-_, _*_, _%_, _^_, _≤_, _<_}
 use native.Mathlib.Omega.{arith}
 use native.Mathlib.Nat.{one-mul}
@@ -9,18 +9,16 @@ use lib.ListN.{length, take, drop}
 use lib.Pow.{shl-exact}
 use lib.Seq.{length-take-le}
 use lib.Dec.{eqb}
-use borrow.Author.Tests.{leb-true, ltb-true, eqb-true, eqb-false, le-leb, lt-ltb, eq-eqb, ne-eqb, le-ltb}
+use borrow.Author.Tests.{leb-true, ltb-true, eqb-true, eqb-false, le-leb, lt-ltb, eq-eqb}
 use Rattle.words.specs.Bytes.{sameBytes}
 use Rattle.words.proofs.Tests.{either}
-use Rattle.blocks.specs.Numbers.{unless, firstFailure, afterwards}
-use Rattle.blocks.proofs.Checks.{unless-holds, fails-here, fails-later, none-fails, last-decides, all-pass, passes, stops, afterwards-new, afterwards-old}
-use Rattle.exams.specs.File.{File, mark}
+use Rattle.blocks.proofs.Checks.{unless-holds, fails-later, none-fails, last-decides, all-pass, passes, afterwards-new, afterwards-old}
+use Rattle.exams.specs.File.{mark}
 use Rattle.exams.specs.Reading.{markIn, editionIn, tIn, examIn, distanceIn, entriesIn, lengthIn, directoryAt, entriesAt, fileIn}
-use Rattle.exams.specs.Numbers.{mostBytes, editionKnown, fieldsNumber, trailerNumber, entriesNumber, directoryNumber, openNumber, openInNumber, fileTablesNumber}
+use Rattle.exams.specs.Numbers.{mostBytes, editionKnown, fieldsNumber, trailerNumber, entriesNumber, directoryNumber, openNumber, openInNumber}
 use Rattle.exams.specs.Calls.{trailerOf, opened}
 use Rattle.exams.specs.Inside.{Entries, Standing}
 use Rattle.exams.specs.declared.Trailer.{Trailer}
-use Rattle.exams.specs.declared.Opened.{Opened}
 use Rattle.exams.specs.declared.Opened.the-variants.{Done, Refused}
 use Rattle.exams.proofs.Directory.{length-entries}
 

@@ -1,33 +1,31 @@
 -- The part of a slot in a file that is open, and the calls that hand it on.
 use mathlib.Core.Path.{_≡_, refl, sym, ap, _∙_}
 use mathlib.Core.List.{List, [], _∷_}
-use mathlib.Core.Bool.{Bool, true, false, cond}
 use Prim.Native.Nat.{ℕ, zero, suc, _+_, _-_, _*_, _^_, _≤_, _<_}
 use native.Mathlib.Omega.{arith}
-use lib.Dec.{eqb, ltb, leb}
+use lib.Dec.{eqb, ltb}
 use lib.ListN.{length, getD, take, drop}
-use lib.Seq.{take-take, length-take-le}
+use lib.Seq.{take-take}
 use borrow.Author.Tests.{lt-ltb, le-ltb, leb-true, eqb-true, eqb-false}
 use Rattle.words.specs.Bytes.{field}
 use Rattle.words.proofs.Tests.{either}
-use Rattle.blocks.specs.Numbers.{unless, firstFailure, afterwards, over, blockNumber, tOf}
+use Rattle.blocks.specs.Numbers.{unless, firstFailure, tOf}
 use Rattle.blocks.specs.Block.{count}
-use Rattle.blocks.specs.Inside.{Unpackable, UnpacksAll, Sized}
+use Rattle.blocks.specs.Inside.{Unpackable, UnpacksAll}
 use Rattle.blocks.specs.Calls.{unpacked}
-use Rattle.blocks.specs.declared.Unpacked.{Unpacked}
-use Rattle.blocks.proofs.Checks.{unless-passes, unless-fails, unless-holds, fails-here, fails-later, none-fails, last-decides, afterwards-new, afterwards-old, passes, all-pass}
+use Rattle.blocks.proofs.Checks.{unless-passes, unless-fails, unless-holds, fails-here, fails-later, none-fails, last-decides, afterwards-new, afterwards-old}
 use Rattle.blocks.proofs.Tables.{sized-power, t-of-power}
 use Rattle.exams.specs.File.{Entry, entry, File, blockOf}
 use Rattle.exams.specs.Reading.{entryAt, entriesAt, entriesIn, directoryAt, fileIn, indexOf, entryOf}
-use Rattle.exams.specs.Numbers.{trailerNumber, directoryNumber, openInNumber, findNumber, blockIn, fileTablesNumber, fetchNumber}
-use Rattle.exams.specs.Calls.{trailerOf, opened, openedNumber, Finds, fetchesNumber, Fetches}
+use Rattle.exams.specs.Numbers.{openInNumber, findNumber, blockIn, fileTablesNumber, fetchNumber}
+use Rattle.exams.specs.Calls.{opened, openedNumber, Finds, fetchesNumber, Fetches}
 use Rattle.exams.specs.Inside.{Entries, Standing, PartOf, fetchNumberOf}
 use Rattle.exams.specs.declared.Trailer.{Trailer}
 use Rattle.exams.specs.declared.Opened.{Opened}
 use Rattle.exams.specs.declared.Opened.the-variants.{Done, Refused}
 use Rattle.exams.specs.declared.opening.Part.{Part}
-use Rattle.exams.proofs.Directory.{length-entries, block-within}
-use Rattle.exams.proofs.Opens.{Trails, trails, trails-ends, body-long, entries-many, refused-tells, done-tells, opens-in, standing}
+use Rattle.exams.proofs.Directory.{block-within}
+use Rattle.exams.proofs.Opens.{Trails, trails, trails-ends, body-long, entries-many, refused-tells, done-tells}
 
 -- ---- entries and where they stand
 

@@ -1,5 +1,5 @@
 -- Writing a trailer, an entry, an empty file. Nothing else opens `trailerBytes` and `entryBytes` but reading back.
-use mathlib.Core.Path.{_≡_, refl, sym, ap, _∙_}
+use mathlib.Core.Path.{_≡_, refl, sym, _∙_}
 use mathlib.Core.List.{List, [], _∷_, _++_}
 use Prim.Native.Nat.{ℕ, _+_, _*_, _≤_, _<_}
 use native.Mathlib.Omega.{arith}
@@ -8,12 +8,11 @@ use lib.Seq.{sets}
 use borrow.Author.Tests.{ltb-true, leb-true}
 use Rattle.words.specs.Bytes.{lowBytes}
 use Rattle.words.proofs.Stores.{sets-append}
-use Rattle.blocks.specs.Numbers.{afterwards, over}
+use Rattle.blocks.specs.Numbers.{over}
 use Rattle.blocks.proofs.Checks.{unless-holds, none-fails, afterwards-new, afterwards-old, sets-over}
 use Rattle.exams.specs.File.{Entry, entry, entryBytes, directoryBytes, mark, trailerBytes, File, fileLength, fileBytes, empty}
 use Rattle.exams.specs.Numbers.{createNumber}
 use Rattle.exams.specs.Calls.{made, Changes, Creates}
-use Rattle.exams.specs.declared.Made.{Made}
 
 -- one run of stores after another
 pub join : (b c d xs ys : List ℕ) (i j : ℕ) → c ≡ sets b i xs → d ≡ sets c j ys → j ≡ i + length xs → d ≡ sets b i (xs ++ ys)

@@ -2,7 +2,7 @@
 ghost use mathlib.Core.Path.{_≡_};
 ghost use Prim.Native.Nat.{_+_, _*_, _≤_};
 ghost use lib.ListN.{length};
-ghost use Rattle.exams.specs.Reading.{entriesAt, fileIn};
+ghost use Rattle.exams.specs.Reading.{entriesAt};
 ghost use Rattle.exams.specs.Numbers.{editionKnown, joins, entriesNumber, fieldsNumber, trailerNumber, openNumber, openInNumber, fileTablesNumber};
 ghost use Rattle.exams.specs.Inside.{Entries};
 

@@ -1,9 +1,9 @@
 // Opening a file, finding a slot, fetching its words.
 ghost use mathlib.Core.Path.{_≡_};
 ghost use Prim.Native.Nat.{_+_, _*_, _≤_};
-ghost use lib.ListN.{length, take};
+ghost use lib.ListN.{length};
 ghost use Rattle.exams.specs.Reading.{entriesAt, indexOf, fileIn};
-ghost use Rattle.exams.specs.Numbers.{openInNumber, trailerNumber};
+ghost use Rattle.exams.specs.Numbers.{trailerNumber};
 ghost use Rattle.exams.specs.Calls.{trailerOf, opened, openedNumber, Finds, Fetches};
 ghost use Rattle.exams.specs.Inside.{Entries, Standing, PartOf, fetchNumberOf};
 use crate::Opened;

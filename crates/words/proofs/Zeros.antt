@@ -1,9 +1,9 @@
 -- Leading zero bytes. Nothing else opens `zeroBytes`.
-use mathlib.Core.Path.{_≡_, refl, sym}
+use mathlib.Core.Path.{_≡_, refl}
 use Prim.Native.Nat.{ℕ, zero, suc, _+_, _-_, _*_, _/_, _^_, _≤_, _<_}
 use native.Mathlib.Omega.{arith}
 use native.Mathlib.Nat.{lt-of-not-le, not-le-of-lt, lt-of-le-of-lt, lt-of-lt-of-le, le-trans, pow-suc, pow-le-pow-right}
-use lib.Pow.{pow-mono, pow-pos, pow-add}
+use lib.Pow.{pow-mono, pow-add}
 use lib.Count.{leadingZeros, leading-le, leading-top, leading-length, leading-of-zero}
 use lib.Dec.{ltb}
 use borrow.Author.Tests.{ltb-true, ltb-false}

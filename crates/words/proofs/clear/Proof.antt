@@ -1,8 +1,8 @@
-use mathlib.Core.Path.{_≡_, refl, _∙_}
+use mathlib.Core.Path.{_≡_, refl}
 use mathlib.Core.List.{_++_}
-use Prim.Native.Nat.{ℕ, _+_, _-_, _≤_}
+use Prim.Native.Nat.{_+_, _-_, _≤_}
 use native.Mathlib.Omega.{arith}
-use lib.ListN.{length, length-set, drop, replicate, drop-of-length-le}
+use lib.ListN.{length, length-set, drop, replicate}
 use borrow.Author.Fill.{fill-none}
 use borrow.Author.Needs.{needs}
 use Rattle.words.proofs.Stores.{clear-more, clear-all}

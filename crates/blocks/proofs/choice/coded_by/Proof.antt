@@ -1,5 +1,4 @@
 use native.Mathlib.Omega.{arith}
-use mathlib.Core.Path.{ap}
 use Rattle.words.proofs.Zeros.{zeros-at-most}
 use Rattle.blocks.proofs.Codes.{coded-of, coded-fits}
 use borrow.Author.Needs.{needs}

@@ -1,4 +1,4 @@
-use Prim.Native.Nat.{min, _+_, _*_, _/_}
+use Prim.Native.Nat.{min}
 use mathlib.Core.Path.{sym, _∙_}
 use native.Mathlib.Omega.{arith}
 use borrow.Author.Tests.{lt-ltb, le-ltb, le-leb, lt-leb}

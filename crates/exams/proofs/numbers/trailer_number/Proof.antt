@@ -1,7 +1,6 @@
-use mathlib.Core.Path.{sym, ap, _∙_}
+use mathlib.Core.Path.{_∙_}
 use native.Mathlib.Omega.{arith}
 use borrow.Author.Tests.{not-true, not-false, le-leb, lt-leb}
-use lib.ListN.{length}
 use Rattle.blocks.proofs.Checks.{last-decides, passes, stops}
 use Rattle.exams.specs.Numbers.{trailerNumber}
 use Rattle.exams.proofs.Opens.{mark-read, fields-read}

@@ -1,5 +1,4 @@
 use mathlib.Core.Path.{sym, _∙_}
-use native.Mathlib.Omega.{arith}
 use Rattle.exams.proofs.Opens.{opens-in, done-tells, standing}
 use Rattle.exams.proofs.Parts.{find-refused, find-done}
 use borrow.Author.Needs.{needs}

@@ -1,6 +1,5 @@
 use Prim.Native.Nat.{_+_, _*_}
 use native.Mathlib.Omega.{arith}
-use borrow.Author.Needs.{needs}
 use Rattle.words.proofs.Bytes.{field-below}
 use Rattle.exams.proofs.Parts.{entries-stand, below, part-missing, part-found, rules-are}
 use Rattle.exams.proofs.opening.part_of.Statement.{statement}
