@@ -289,6 +289,7 @@ three = 0x3FF0_0000_0000_0000 ∷ 0x3FF0_0000_0000_0000 ∷ 0x3FF0_0000_0000_000
 abbrev pub oneRun : List Run
 oneRun = record { first = 0x3FF0_0000_0000_0000; difference = 0; count = 3 } ∷ []
 
+-- The three equal words are one run.
 pub one-run-is-three : joined oneRun ≡ three
 unfolding add64
 one-run-is-three = refl

@@ -195,10 +195,11 @@ pub refused-open-tells-nothing : (o : Opened) → (openedNumber o ≡ 0 → ⊥)
 refused-open-tells-nothing (Done tr) h = absurd (h refl)
 refused-open-tells-nothing (Refused k) h = (refl, refl, refl)
 
--- A refused find hands back an empty part; an accepted one hands back at least 8 bytes.
+-- A refused find hands back an empty part.
 pub refused-find-is-empty : {b : List ℕ} {l exam slot : ℕ} {part : List ℕ} {number : ℕ} → Finds b l exam slot part number → (number ≡ 0 → ⊥) → part ≡ []
 refused-find-is-empty c h = c .answer ∙ afterwards-old _ _ _ (λ z. h (c .numberLeft ∙ z))
 
+-- An accepted find hands back at least 8 bytes, so an empty part means refused.
 pub found-is-long : {b : List ℕ} {l exam slot : ℕ} {part : List ℕ} {number : ℕ} → Finds b l exam slot part number → number ≡ 0 → 8 ≤ length part
 found-is-long {b} {l} {exam} {slot} c e =
     let z = sym (c .numberLeft) ∙ e in

@@ -226,7 +226,7 @@ fn changed(at: usize, to: u8) {
 // is not 32 + 12 times the entries, one larger than the file, 1,025 entries, another length; an offset
 // that isn't 0, a length that leaves a hole, overlaps, or is under 8.
 pub fn refusals_of_a_field() {
-    show::text(b"The file of 53 bytes with a byte changed\n");
+    show::text(b"The file of 53 bytes, first as it is, then with one byte changed\n");
     changed(8, 0x77);
     changed(21, 0x64);
     changed(25, 2);
@@ -253,8 +253,10 @@ pub fn slots_that_do_not_ascend() {
     append_word(&mut file, 53, 7, 5, &mut bench);
     open(&file, 74, 7);
     set(&mut file, 30, 4);
+    show::text(b"second slot 4: ");
     open(&file, 74, 7);
     set(&mut file, 30, 3);
+    show::text(b"second slot 3: ");
     open(&file, 74, 7);
 }
 
