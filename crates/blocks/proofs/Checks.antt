@@ -5,7 +5,7 @@ use mathlib.Core.Bool.{Bool, true, false}
 use Prim.Native.Nat.{ℕ, zero, suc, _≤_, _<_}
 use native.Mathlib.Omega.{arith}
 use native.Mathlib.Nat.{zero-add}
-use lib.ListN.{length, drop}
+use lib.ListN.{length, drop, length-append}
 use lib.Seq.{sets, sets-eq}
 use Rattle.blocks.specs.Numbers.{unless, firstFailure, afterwards, over}
 
@@ -76,3 +76,9 @@ afterwards-old (suc k) new old h = refl
 -- stores from the first place on, within the list
 pub sets-over : (vs l : List ℕ) → length vs ≤ length l → sets l 0 vs ≡ over vs l
 sets-over vs l h = sets-eq vs l 0 (omega arith) ∙ ap (λ (k : ℕ). vs ++ drop k l) (zero-add (length vs))
+
+-- what a call tells of its result's length is within the output that it leaves, refused or not
+pub told-within : (k : ℕ) (result old : List ℕ) → afterwards k (length result) 0 ≤ length (afterwards k (over result old) old)
+unfolding afterwards
+told-within zero result old = omega (arith, length-append result (drop (length result) old))
+told-within (suc k) result old = omega arith

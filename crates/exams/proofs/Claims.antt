@@ -1,10 +1,10 @@
--- What is promised of create, open, find, fetch and append, each promise with one line of plain words.
+-- What is promised of create, open, find, locate, fetch and append, each promise with one line of plain words.
 use mathlib.Core.Path.{_≡_, refl, sym, ap, _∙_}
 use mathlib.Core.Logic.{_↔_}
 use mathlib.Core.List.{List, [], _∷_, _++_}
 use Prim.Native.Nat.{ℕ, _+_, _^_, _≤_, _<_}
 use native.Mathlib.Omega.{arith}
-use lib.ListN.{length, getD, take}
+use lib.ListN.{length, getD, take, drop}
 use lib.Seq.{take-take}
 use Rattle.words.specs.Words.{Words}
 use Rattle.words.specs.Bytes.{Bytes}
@@ -16,17 +16,18 @@ use Rattle.blocks.proofs.Checks.{afterwards-new, afterwards-old}
 use Rattle.exams.specs.File.{entry, File, fileLength, fileBytes, blockOf, empty, appended}
 use Rattle.exams.specs.Reading.{tIn, examIn, distanceIn, entriesIn, lengthIn, fileIn, entryOf}
 use Rattle.exams.specs.Numbers.{directoryNumber, findNumber, blockIn}
-use Rattle.exams.specs.Calls.{opened, openedNumber, openedT, openedEntries, openedStart, Finds, fetchesNumber, Fetches, made, Changes, Creates, appendsNumber, Appends}
+use Rattle.exams.specs.Calls.{opened, openedNumber, openedT, openedEntries, openedStart, Finds, located, fetchesNumber, Fetches, made, Changes, Creates, appendsNumber, Appends}
 use Rattle.exams.specs.Maps.{Map, fileOf}
+use Rattle.exams.specs.declared.Located.{Located}
 use Rattle.exams.specs.declared.Made.{Made}
 use Rattle.exams.specs.declared.Opened.{Opened}
 use Rattle.exams.specs.declared.Opened.the-variants.{Done, Refused}
 use Rattle.exams.proofs.Opens.{opens-in, t-in, body-long, entries-many}
 use Rattle.exams.proofs.Accept.{Follows, directory-follows, OpenTakes, open-takes, takes-open, FindTakes, find-takes, takes-find, FetchTakes, fetch-takes, takes-fetch, takes-create, AppendTakes, append-takes, takes-append, follows-directory, opened-number, opened-done, fetches-number, changes-number, changes-none}
 use Rattle.exams.proofs.Writes.{CreateTakes, create-takes, length-file}
-use Rattle.exams.proofs.Maps.{Holds, holds-length, holds-parts, map-found, map-block, created-holds, appended-clear, appended-holds, maps-open, map-answer, map-words, Fit, none-fit, fit-more, fit-at}
+use Rattle.exams.proofs.Maps.{Holds, holds-length, holds-parts, map-found, map-block, created-holds, appended-few, appended-holds, maps-open, map-answer, map-words, Fit, none-fit, fit-more, fit-at}
 use Rattle.exams.proofs.Cut.{never}
-use Rattle.exams.proofs.Kept.{found-long, more-holds, more-opens, slot-kept}
+use Rattle.exams.proofs.Kept.{found-long, found-size, found-within, found-part, more-holds, more-opens, slot-kept}
 
 -- ---- no second answer
 
@@ -37,6 +38,10 @@ open-one-answer b l exam p q = p ∙ sym q
 -- Of the part that find hands back and of its number, refused or not, the promise admits one value each.
 pub find-one-answer : {b : List ℕ} {l exam slot n₁ n₂ : ℕ} {p₁ p₂ : List ℕ} → Finds b l exam slot p₁ n₁ → Finds b l exam slot p₂ n₂ → (p₁ ≡ p₂) × (n₁ ≡ n₂)
 find-one-answer p q = (p .answer ∙ sym (q .answer), p .numberLeft ∙ sym (q .numberLeft))
+
+-- Of locate's answer, the promise admits one value. Here the place is fixed too.
+pub locate-one-answer : (b : List ℕ) (l exam slot : ℕ) {r₁ r₂ : Located} → r₁ ≡ located b l exam slot → r₂ ≡ located b l exam slot → r₁ ≡ r₂
+locate-one-answer b l exam slot p q = p ∙ sym q
 
 -- Of fetch's answer, of both tables and of the words, refused or not, the promise admits one value each.
 pub fetch-one-answer : {b : List ℕ} {l exam slot : ℕ} {fcm dfcm words f₁ d₁ w₁ f₂ d₂ w₂ : List ℕ} {r₁ r₂ : Unpacked}
@@ -163,7 +168,7 @@ made-opens {exam} {b = b} {l} m = opened-number b l exam ∙ maps-open exam _ _ 
 made-fit : {exam t : ℕ} {ms : List Map} {b : List ℕ} {l : ℕ} → MadeOf exam t ms b l → Fit ms
 made-fit (created w c e) = none-fit
 made-fit {exam} {t} (grown {ms = ms} h s w c e) =
-    fit-more _ (made-fit h) (record { few = appended-clear exam t ms (made-holds h) s c e .packs .few; wide = w })
+    fit-more _ (made-fit h) (record { few = appended-few exam t ms (made-holds h) s c e; wide = w })
 
 -- Finding a slot of such a file hands back the block of the words that were appended there.
 pub made-finds : (first : List Map) (m : Map) (rest : List Map) {exam t : ℕ} {b : List ℕ} {l : ℕ} {part : List ℕ} {number : ℕ}
@@ -204,6 +209,34 @@ pub found-is-long : {b : List ℕ} {l exam slot : ℕ} {part : List ℕ} {number
 found-is-long {b} {l} {exam} {slot} c e =
     let z = sym (c .numberLeft) ∙ e in
     rw (c .answer ∙ afterwards-new _ _ [] z) (found-long b l exam slot z)
+
+-- A refused locate answers 0 for the offset and for the size.
+pub refused-locate-tells-nothing : (b : List ℕ) (l exam slot : ℕ) → (located b l exam slot .number ≡ 0 → ⊥) → (located b l exam slot .offset ≡ 0) × (located b l exam slot .size ≡ 0)
+unfolding located
+refused-locate-tells-nothing b l exam slot h = (afterwards-old _ _ 0 h, afterwards-old _ _ 0 h)
+
+-- Where locate answers 0, the file is the exam's, and the block has at least 8 bytes and lies within the file.
+pub located-has : (b : List ℕ) (l exam slot : ℕ) → located b l exam slot .number ≡ 0
+    → (examIn (take l b) ≡ exam) × (8 ≤ located b l exam slot .size) × (located b l exam slot .offset + located b l exam slot .size ≤ l)
+unfolding located
+located-has b l exam slot z =
+    let o = afterwards-new _ (entryOf slot (fileIn (take l b)) .offset) 0 z in
+    let s = afterwards-new _ (entryOf slot (fileIn (take l b)) .size) 0 z in
+    rw (o, s) (find-takes b l exam slot z .opens .own, found-size b l exam slot z, found-within b l exam slot z)
+
+-- Locate answers as find does. Where it is 0, the block lies within the file, and the bytes at its place are the part that find hands back.
+pub located-is-found : {b : List ℕ} {l exam slot : ℕ} {part : List ℕ} {number : ℕ} {r : Located} → Finds b l exam slot part number → r ≡ located b l exam slot
+    → (r .number ≡ number) × (number ≡ 0 → (r .offset + r .size ≤ l) × (part ≡ take (r .size) (drop (r .offset) b)))
+unfolding located
+located-is-found {b} {l} {exam} {slot} {part} c q =
+    rw q (
+      sym (c .numberLeft),
+      λ e.
+          let z = sym (c .numberLeft) ∙ e in
+          let o = afterwards-new _ (entryOf slot (fileIn (take l b)) .offset) 0 z in
+          let s = afterwards-new _ (entryOf slot (fileIn (take l b)) .size) 0 z in
+          rw (o, s) (found-within b l exam slot z, c .answer ∙ afterwards-new _ _ [] z ∙ found-part b l exam slot z),
+    )
 
 -- A refused fetch leaves both tables and the words as they were.
 pub refused-fetch-changes-nothing : {b : List ℕ} {l exam slot : ℕ} {fcm dfcm words f' d' w' : List ℕ} {r : Unpacked}

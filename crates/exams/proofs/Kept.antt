@@ -11,17 +11,17 @@ use Rattle.words.proofs.Bytes.{number-below}
 use Rattle.words.proofs.Tests.{either}
 use Rattle.blocks.specs.Block.{block}
 use Rattle.blocks.proofs.Checks.{unless-holds, none-fails, fails-later, passes, all-pass}
-use Rattle.blocks.proofs.Put.{length-block, block-at-most}
-use Rattle.exams.specs.File.{Entry, entry, File, fileLength, blockOf, appended}
+use Rattle.exams.specs.File.{Entry, entry, File, blockOf, appended}
 use Rattle.exams.specs.Reading.{trailerAt, directoryAt, entriesIn, entryAt, entriesAt, fileIn, indexOf, entryOf}
 use Rattle.exams.specs.Numbers.{directoryNumber, openInNumber, findNumber, blockIn}
-use Rattle.exams.specs.Calls.{appendsNumber, Appends}
+use Rattle.exams.specs.Calls.{Appends}
 use Rattle.exams.specs.declared.Made.{Made}
 use Rattle.exams.proofs.Directory.{block-within, block-long}
-use Rattle.exams.proofs.Opens.{Opens, opens-in, trails-ends, t-in, body-long, entries-many}
-use Rattle.exams.proofs.Grow.{clear, bytes-take, bytes-drop, block-kept}
+use Rattle.exams.proofs.Opens.{Opens, OpensIn, opens-in, trails-ends, body-long, entries-many}
+use Rattle.exams.proofs.Grow.{bytes-take, bytes-drop, block-kept}
 use Rattle.exams.proofs.Back.{Smalls, none, more, Good}
-use Rattle.exams.proofs.Maps.{good-more, Holds, holds-parts, holds-opens, changed-holds}
+use Rattle.exams.proofs.Maps.{Holds, holds-parts, holds-opens, grown-holds}
+use Rattle.exams.proofs.Parts.{part-of-first}
 use Rattle.exams.proofs.Accept.{changes-number}
 
 -- ---- what is read from bytes fits its fields
@@ -79,6 +79,10 @@ module _ (b : List ℕ) (l exam s : ℕ) (z : findNumber b l exam s ≡ 0) where
   unfolding findNumber
   found-directory = opens-in b l exam (none-fails _ _ z .0) .is .directory
 
+  pub found-size : 8 ≤ entryOf s (fileIn (take l b)) .size
+  unfolding entryOf
+  found-size = block-long (fileIn (take l b)) (indexOf s (fileIn (take l b) .entries)) (entry s 0 0) found-directory found-below
+
   -- its block has the entry's bytes, and at least 8 of them
   pub found-long : 8 ≤ length (blockIn b l s)
   unfolding blockIn blockOf entryOf
@@ -88,6 +92,23 @@ module _ (b : List ℕ) (l exam s : ℕ) (z : findNumber b l exam s ≡ 0) where
       let d = entry s 0 0 in
       let e = getD (f .entries) i d in
       omega (arith, block-long f i d found-directory found-below, block-within f i d found-directory found-below, length-take (e .size) (drop (e .offset) (f .body)), length-drop (e .offset) (f .body))
+
+  -- the block ends before the directory, so within the file, and is the bytes at its place in the buffer
+  ends : entryOf s (fileIn (take l b)) .offset + entryOf s (fileIn (take l b)) .size ≤ directoryAt (take l b)
+  unfolding entryOf
+  ends = omega (arith, block-within (fileIn (take l b)) (indexOf s (fileIn (take l b) .entries)) (entry s 0 0) found-directory found-below, body-long (take l b))
+
+  pub found-within : entryOf s (fileIn (take l b)) .offset + entryOf s (fileIn (take l b)) .size ≤ l
+  unfolding findNumber
+  found-within =
+      let o = opens-in b l exam (none-fails _ _ z .0) in
+      omega (arith, ends, trails-ends (take l b) (o .is .trailer), o .long)
+
+  pub found-part : blockIn b l s ≡ take (entryOf s (fileIn (take l b)) .size) (drop (entryOf s (fileIn (take l b)) .offset) b)
+  unfolding blockIn blockOf fileIn
+  found-part =
+      let x = entryOf s (fileIn (take l b)) in
+      part-of-first (x .size) (x .offset) (directoryAt (take l b)) (take l b) ends ∙ part-of-first (x .size) (x .offset) l b found-within
 
 -- ---- the call
 
@@ -99,28 +120,20 @@ module _ {b : List ℕ} {l exam slot : ℕ} {words fcm dfcm bench b' fcm' dfcm' 
   abbrev new : File
   new = appended old slot (block (old .t) words)
 
-  append-zero : appendsNumber b l exam slot words fcm dfcm bench ≡ 0
-  append-zero = sym (changes-number (c .file)) ∙ e
-
-  own-exam : old .exam ≡ exam
-  unfolding fileIn
-  own-exam = opens-in b l exam (none-fails _ _ append-zero .0) .is .own
+  opened-old : OpensIn b l exam
+  opened-old = opens-in b l exam (none-fails _ _ (sym (changes-number (c .file)) ∙ e) .0)
 
   -- the buffer holds the file with one block more
   pub more-holds : Holds b' (r .length) new
   more-holds =
-      let a = none-fails _ _ append-zero in
-      let o = opens-in b l exam (a .0) in
+      let o = opened-old in
       let f = take l b in
-      let k = clear _ _ _ _ _ _ _ _ _ _ (rw (t-in f) (o .is .trailer .t)) (none-fails _ _ (a .1) .0) in
-      let s : fileLength old ≡ l = omega (arith, body-long f, entries-many f, trails-ends f (o .is .trailer), o .long) in
-      let g = good-read f exam (bytes-take l b bytes) (o .is) in
-      changed-holds (c .file) e
-      (good-more old slot (block (old .t) words) g w (k .few) (k .above) (omega (arith, length-block (old .t) words)) (omega (arith, k .small, block-at-most (old .t) words, s)))
+      grown-holds (good-read f exam (bytes-take l b bytes) (o .is)) refl (omega (arith, body-long f, entries-many f, trails-ends f (o .is .trailer), o .long)) w c e
 
   -- and it opens for the same exam number
   pub more-opens : openInNumber b' (r .length) exam ≡ 0
-  more-opens = rw own-exam at (holds-opens more-holds)
+  unfolding fileIn
+  more-opens = rw (opened-old .is .own) at (holds-opens more-holds)
 
   -- a slot that was found is found, with the same entry and the same block
   pub slot-kept : (s : ℕ) → findNumber b l exam s ≡ 0

@@ -115,30 +115,34 @@ created-holds {exam} {t} {b} {b'} {r} w c e =
     let k = create-takes exam t (length b) z in
     changed-holds c e (good-empty exam t (k .most) (k .named) w)
 
+-- an accepted append to a buffer in which the file f stands
+module _ {f : File} {b : List ℕ} {l exam slot : ℕ} {words fcm dfcm bench b' fcm' dfcm' bench' : List ℕ} {r : Made} (g : Good f) (p : fileIn (take l b) ≡ f) (s : l ≡ fileLength f)
+    (w : slot < 2 ^ 32) (c : Appends b l exam slot words fcm dfcm bench r b' fcm' dfcm' bench') (e : r .number ≡ 0) where
+  -- what it tells
+  pub grown-clear : Clear (length (f .entries)) (nextSlot 0 (f .entries)) slot (f .t) (length words) (length fcm) (length dfcm) l (length b) (length bench)
+  unfolding made
+  grown-clear =
+      let z : appendsNumber b l exam slot words fcm dfcm bench ≡ 0 = sym (ap (λ (x : Made). x .number) (c .file .answer)) ∙ e in
+      clear _ _ _ _ _ _ _ _ _ _ (g .t) (rw p at (none-fails _ _ (none-fails _ _ z .1) .0))
+
+  -- the buffer holds the file with one block more
+  pub grown-holds : Holds b' (r .length) (appended f slot (block (f .t) words))
+  grown-holds =
+      let k = grown-clear in
+      let n = appendsNumber b l exam slot words fcm dfcm bench in
+      changed-holds (subst (λ (x : File). Changes n (appended x slot (block (x .t) words)) b r b') p (c .file)) e
+      (good-more f slot (block (f .t) words) g w (k .few) (k .above) (omega (arith, length-block (f .t) words)) (omega (arith, k .small, block-at-most (f .t) words, s)))
+
 module _ (exam t : ℕ) (ms : List Map) {b : List ℕ} {l : ℕ} (h : Holds b l (fileOf exam t ms)) {slot : ℕ} {words fcm dfcm bench b' fcm' dfcm' bench' : List ℕ} {r : Made}
     (w : slot < 2 ^ 32) (c : Appends b l exam slot words fcm dfcm bench r b' fcm' dfcm' bench') (e : r .number ≡ 0) where
-  append-zero : appendsNumber b l exam slot words fcm dfcm bench ≡ 0
-  unfolding made
-  append-zero = sym (ap (λ (x : Made). x .number) (c .file .answer)) ∙ e
-
-  -- what an accepted append to the file of maps tells
-  pub appended-clear : Clear (length (fileOf exam t ms .entries)) (nextSlot 0 (fileOf exam t ms .entries)) slot t (length words) (length fcm) (length dfcm) l (length b) (length bench)
-  unfolding fileOf
-  appended-clear =
-      let z = none-fails _ _ (none-fails _ _ append-zero .1) .0 in
-      clear _ _ _ _ _ _ _ _ _ _ (h .good .t) (rw (holds-parts h) at z)
+  pub appended-few : length words ≤ 65536
+  appended-few = grown-clear (h .good) (holds-parts h) (holds-length h) w c e .packs .few
 
   -- the buffer holds the file of one map more
   pub appended-holds : Holds b' (r .length) (fileOf exam t (ms ++ (record { slot = slot; words = words } ∷ [])))
   unfolding fileOf
   appended-holds =
-      let f = fileOf exam t ms in
-      let k = appended-clear in
-      let t-is : fileIn (take l b) .t ≡ t = ap (λ (x : File). x .t) (holds-parts h) in
-      let g : Good (appended f slot (block t words)) =
-      good-more f slot (block t words) (h .good) w (k .few) (k .above) (omega (arith, length-block t words)) (omega (arith, k .small, block-at-most t words, holds-length h)) in
-      let q : Changes _ (appended f slot (block t words)) b r b' = rw (holds-parts h, t-is) at (c .file) in
-      subst (λ (x : File). Holds b' (r .length) x) (file-snoc exam t ms (record { slot = slot; words = words })) (changed-holds q e g)
+      subst (λ (x : File). Holds b' (r .length) x) (file-snoc exam t ms (record { slot = slot; words = words })) (grown-holds (h .good) (holds-parts h) (holds-length h) w c e)
 
 pub maps-open : (exam t : ℕ) (ms : List Map) {b : List ℕ} {l : ℕ} → Holds b l (fileOf exam t ms) → openInNumber b l exam ≡ 0
 unfolding fileOf

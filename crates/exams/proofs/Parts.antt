@@ -18,7 +18,7 @@ use Rattle.blocks.proofs.Tables.{sized-power, t-of-power}
 use Rattle.exams.specs.File.{Entry, entry, File, blockOf}
 use Rattle.exams.specs.Reading.{entryAt, entriesAt, entriesIn, directoryAt, fileIn, indexOf, entryOf}
 use Rattle.exams.specs.Numbers.{openInNumber, findNumber, blockIn, fileTablesNumber, fetchNumber}
-use Rattle.exams.specs.Calls.{opened, openedNumber, Finds, fetchesNumber, Fetches}
+use Rattle.exams.specs.Calls.{opened, openedNumber, Finds, located, fetchesNumber, Fetches}
 use Rattle.exams.specs.Inside.{Entries, Standing, PartOf, fetchNumberOf}
 use Rattle.exams.specs.declared.Trailer.{Trailer}
 use Rattle.exams.specs.declared.Opened.{Opened}
@@ -78,6 +78,8 @@ module _ (f : List ℕ) (tr : Trailer) (st : Standing f tr) where
     part-missing q =
         record {
           number = unless-fails _ _ (le-ltb (indexOf slot (file .entries)) (length (file .entries)) (omega (arith, index-is, many-is, entries-many f)));
+          offset = sym (afterwards-old _ _ _ (λ z. omega arith));
+          size = sym (afterwards-old _ _ _ (λ z. omega arith));
           order = omega arith;
           within = omega arith;
           bytes = sym (afterwards-old _ _ _ (λ z. omega arith));
@@ -108,6 +110,8 @@ module _ (f : List ℕ) (tr : Trailer) (st : Standing f tr) where
             let w = part-ends in
             record {
               number = sym (unless-passes _ _ (lt-ltb (indexOf slot (file .entries)) (length (file .entries)) (omega (arith, index-is, below, many-is, entries-many f))));
+              offset = o ∙ sym (ap (λ (x : Entry). x .offset) entry-is) ∙ sym (afterwards-new _ _ _ refl);
+              size = k ∙ s ∙ sym (ap (λ (x : Entry). x .size) entry-is) ∙ sym (afterwards-new _ _ _ refl);
               order = omega arith;
               within = omega (arith, trails-ends f rules-are);
               bytes = rw (k, entry-is, ← o, ← s) (sym (part-of-first size offset (directoryAt f) f w) ∙ sym (afterwards-new _ _ _ refl));
@@ -124,6 +128,13 @@ module _ (b : List ℕ) (l exam slot : ℕ) (a : Opened) (e : a ≡ opened b l e
       fails-here _ _ _ (q ∙ ap openedNumber d ∙ t .0) (λ z. t .1 (sym (q ∙ ap openedNumber d) ∙ z)) in
       record { numberLeft = r; answer = sym (afterwards-old _ _ _ (λ z. t .1 (sym (q ∙ ap openedNumber d) ∙ r ∙ z))) }
 
+  pub locate-refused : (k n : ℕ) → a ≡ Refused k → n ≡ openedNumber a → record { number = n; offset = 0; size = 0 } ≡ located b l exam slot
+  unfolding located
+  locate-refused k n d q =
+      let r = find-refused k n d q .numberLeft in
+      let m : findNumber b l exam slot ≡ 0 → ⊥ = λ z. refused-tells b l exam k (sym e ∙ d) .1 (sym (q ∙ ap openedNumber d) ∙ r ∙ z) in
+      cc (r, afterwards-old _ (entryOf slot (fileIn (take l b)) .offset) 0 m, afterwards-old _ (entryOf slot (fileIn (take l b)) .size) 0 m)
+
   module _ (tr : Trailer) (d : a ≡ Done tr) (p : Part) (w : PartOf (take l b) slot p) where
     pub find-number : p .number ≡ findNumber b l exam slot
     unfolding findNumber
@@ -132,6 +143,10 @@ module _ (b : List ℕ) (l exam slot : ℕ) (a : Opened) (e : a ≡ opened b l e
     pub find-done : Finds b l exam slot (take (p .end - p .start) (drop (p .start) (take l b))) (p .number)
     unfolding blockIn
     find-done = record { numberLeft = find-number; answer = w .bytes ∙ rw find-number }
+
+    pub locate-done : record { number = p .number; offset = p .start; size = p .end - p .start } ≡ located b l exam slot
+    unfolding located
+    locate-done = cc (find-number, w .offset, w .size)
 
 -- ---- fetching
 

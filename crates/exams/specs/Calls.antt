@@ -9,8 +9,9 @@ use Rattle.blocks.specs.Numbers.{firstFailure, afterwards, over}
 use Rattle.blocks.specs.Calls.{unpacked}
 use Rattle.blocks.specs.declared.Unpacked.{Unpacked}
 use Rattle.exams.specs.File.{File, fileLength, fileBytes, empty, appended}
-use Rattle.exams.specs.Reading.{fileIn}
+use Rattle.exams.specs.Reading.{fileIn, entryOf}
 use Rattle.exams.specs.Numbers.{openInNumber, findNumber, fetchNumber, blockIn, createNumber, appendNumberTo}
+use Rattle.exams.specs.declared.Located.{Located}
 use Rattle.exams.specs.declared.Made.{Made}
 use Rattle.exams.specs.declared.Trailer.{Trailer}
 use Rattle.exams.specs.declared.Opened.{Opened}
@@ -49,6 +50,17 @@ openedStart (Refused k) = 0
 pub record Finds (b : List ℕ) (l exam slot : ℕ) (part : List ℕ) (number : ℕ) : Type 0 where
   pub numberLeft : number ≡ findNumber b l exam slot
   pub answer : part ≡ afterwards (findNumber b l exam slot) (blockIn b l slot) []
+
+-- ---- locate
+
+-- locate(file, length, exam, slot): find's number, and the block's offset in the file and its length, both 0 where it is refused
+unfoldable pub located : List ℕ → ℕ → ℕ → ℕ → Located
+located b l exam slot =
+    record {
+      number = findNumber b l exam slot;
+      offset = afterwards (findNumber b l exam slot) (entryOf slot (fileIn (take l b)) .offset) 0;
+      size = afterwards (findNumber b l exam slot) (entryOf slot (fileIn (take l b)) .size) 0;
+    }
 
 -- ---- fetch
 

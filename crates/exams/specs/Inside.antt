@@ -28,6 +28,8 @@ pub record Standing (f : List ℕ) (tr : Trailer) : Type 0 where
 -- the part of a slot in a file that is open
 pub record PartOf (f : List ℕ) (slot : ℕ) (r : Part) : Type 0 where
   pub number : r .number ≡ unless (ltb (indexOf slot (fileIn f .entries)) (length (fileIn f .entries))) 10
+  pub offset : r .start ≡ afterwards (r .number) (entryOf slot (fileIn f) .offset) 0
+  pub size : r .end - r .start ≡ afterwards (r .number) (entryOf slot (fileIn f) .size) 0
   pub order : r .start ≤ r .end
   pub within : r .end ≤ length f
   pub bytes : take (r .end - r .start) (drop (r .start) f) ≡ afterwards (r .number) (blockOf (fileIn f) (entryOf slot (fileIn f))) []

@@ -8,6 +8,7 @@ pub use making::append;
 pub use making::create;
 pub use opening::fetch;
 pub use opening::find;
+pub use opening::locate;
 pub use opening::open;
 pub use opening::opened_number;
 
@@ -24,6 +25,13 @@ pub struct Trailer {
 pub enum Opened {
     Done(Trailer),
     Refused(u32),
+}
+
+// What locate answers: the number, and where the block stands in the file and its size, or 0 and 0.
+pub struct Located {
+    pub number: u32,
+    pub offset: usize,
+    pub size: usize,
 }
 
 // What a call answers that makes or changes a file: the number, and the file's new length or 0.

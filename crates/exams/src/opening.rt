@@ -4,8 +4,9 @@ ghost use Prim.Native.Nat.{_+_, _*_, _≤_};
 ghost use lib.ListN.{length};
 ghost use Rattle.exams.specs.Reading.{entriesAt, indexOf, fileIn};
 ghost use Rattle.exams.specs.Numbers.{trailerNumber};
-ghost use Rattle.exams.specs.Calls.{trailerOf, opened, openedNumber, Finds, Fetches};
+ghost use Rattle.exams.specs.Calls.{trailerOf, opened, openedNumber, Finds, located, Fetches};
 ghost use Rattle.exams.specs.Inside.{Entries, Standing, PartOf, fetchNumberOf};
+use crate::Located;
 use crate::Opened;
 use crate::Trailer;
 use crate::numbers;
@@ -111,6 +112,26 @@ pub fn find<'a>(file: &'a [u8], length: usize, exam: u64, slot: u32, number: &mu
     let end = part.end;
     *number = part.number;
     &whole[start..end]
+}
+
+// Where the block of a slot stands in the file, for a caller that cannot be handed a part of it.
+pub fn locate(file: &[u8], length: usize, exam: u64, slot: u32) -> Located
+    ensures { λ r. ⌜ r ≡ located (now (file .entry)) length exam slot ⌝ }
+{
+    let opened = open(file, length, exam);
+    let Opened::Done(trailer) = opened else {
+        return Located {
+            number: opened_number(opened),
+            offset: 0,
+            size: 0,
+        };
+    };
+    let part = part_of(&file[..length], trailer, slot);
+    Located {
+        number: part.number,
+        offset: part.start,
+        size: part.end - part.start,
+    }
 }
 
 // The number that fetching answers, once the slot was looked for.

@@ -1,0 +1,25 @@
+# What a newcomer runs. Each target says what it does and how long it may take.
+
+.PHONY: help demo lib test bench
+
+help:
+	@echo "make demo    prove and build the two programs, pack a sample map, list a sample exam (about 3 minutes)"
+	@echo "make lib     prove and build libcoil.a for C (about 2 minutes)"
+	@echo "make test    the whole gate, the same as .ci/run (under 20 minutes)"
+	@echo "make bench   sizes and times beside other codecs (about 3 minutes the first time)"
+
+demo:
+	@examples/demo
+
+lib:
+	@echo "Proving the library from its rules up, then building it for x86-64. About 2 minutes the first time."
+	rt staticlib coil
+	@echo "Link your program with target/staticlib/libcoil.a and include/coil.h."
+
+test:
+	@echo "Proving everything from nothing, trying every wrong version, then the tests from outside. Under 20 minutes."
+	@bash .ci/run
+
+bench:
+	@echo "Packing and unpacking the same inputs with this library and with others. About 3 minutes the first time."
+	@bench/run

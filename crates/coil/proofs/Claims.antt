@@ -1,0 +1,116 @@
+-- What is promised of the calls from C, each promise with one line of plain words. They are the store's own promises, read through the lent numbers.
+use mathlib.Core.Path.{_≡_, sym, ap, _∙_}
+use mathlib.Core.List.{List}
+use Prim.Native.Nat.{ℕ, _+_, _≤_, _<_}
+use lib.ListN.{take}
+use Rattle.blocks.specs.declared.Packed.{Packed}
+use Rattle.blocks.specs.declared.Unpacked.{Unpacked}
+use Rattle.blocks.proofs.Claims.{pack-one-answer, unpack-one-answer, refused-pack-changes-nothing, refused-unpack-changes-nothing}
+use Rattle.exams.specs.Reading.{examIn}
+use Rattle.exams.specs.declared.Located.{Located}
+use Rattle.exams.specs.declared.Made.{Made}
+use Rattle.exams.proofs.Claims.{create-one-answer, fetch-one-answer, append-one-answer, refused-create-changes-nothing, refused-locate-tells-nothing, refused-fetch-changes-nothing, refused-append-changes-nothing, own-exam, located-has, fetch-accepts, append-accepts}
+use Rattle.coil.specs.Calls.{CoilOpens, CoilChecks, CoilPacks, CoilUnpacks, CoilCreates, CoilFinds, CoilFetches, CoilAppends}
+
+-- ---- no second answer
+
+-- Of the number that coil_open answers, the promise admits one value.
+pub coil-open-one-answer : (b : List ℕ) (l exam : ℕ) {r₁ r₂ : ℕ} → CoilOpens b l exam r₁ → CoilOpens b l exam r₂ → r₁ ≡ r₂
+coil-open-one-answer b l exam p q = p ∙ sym q
+
+-- Of the number that coil_check answers, the promise admits one value.
+pub coil-check-one-answer : (b : List ℕ) {r₁ r₂ : ℕ} → CoilChecks b r₁ → CoilChecks b r₂ → r₁ ≡ r₂
+coil-check-one-answer b p q = p ∙ sym q
+
+-- Of coil_pack's answer, both tables, the output and the lent length, the promise admits one value each.
+pub coil-pack-one-answer : {words fcm dfcm out f₁ d₁ o₁ f₂ d₂ o₂ : List ℕ} {r₁ l₁ r₂ l₂ : ℕ}
+    → CoilPacks words fcm dfcm out r₁ f₁ d₁ o₁ l₁ → CoilPacks words fcm dfcm out r₂ f₂ d₂ o₂ l₂ → (r₁ ≡ r₂) × (f₁ ≡ f₂) × (d₁ ≡ d₂) × (o₁ ≡ o₂) × (l₁ ≡ l₂)
+coil-pack-one-answer p q =
+    let a = pack-one-answer p q in
+    (ap (λ (x : Packed). x .number) (a .0), a .1, a .2, a .3, ap (λ (x : Packed). x .length) (a .0))
+
+-- Of coil_unpack's answer, both tables, the words and the lent count, the promise admits one value each.
+pub coil-unpack-one-answer : {block fcm dfcm words f₁ d₁ w₁ f₂ d₂ w₂ : List ℕ} {r₁ n₁ r₂ n₂ : ℕ}
+    → CoilUnpacks block fcm dfcm words r₁ f₁ d₁ w₁ n₁ → CoilUnpacks block fcm dfcm words r₂ f₂ d₂ w₂ n₂ → (r₁ ≡ r₂) × (f₁ ≡ f₂) × (d₁ ≡ d₂) × (w₁ ≡ w₂) × (n₁ ≡ n₂)
+coil-unpack-one-answer p q =
+    let a = unpack-one-answer p q in
+    (ap (λ (x : Unpacked). x .number) (a .0), a .1, a .2, a .3, ap (λ (x : Unpacked). x .count) (a .0))
+
+-- Of coil_create's answer, the buffer and the lent length, the promise admits one value each.
+pub coil-create-one-answer : {b b₁ b₂ : List ℕ} {exam t r₁ l₁ r₂ l₂ : ℕ} → CoilCreates b exam t r₁ b₁ l₁ → CoilCreates b exam t r₂ b₂ l₂ → (r₁ ≡ r₂) × (b₁ ≡ b₂) × (l₁ ≡ l₂)
+coil-create-one-answer p q =
+    let a = create-one-answer p q in
+    (ap (λ (x : Made). x .number) (a .0), a .1, ap (λ (x : Made). x .length) (a .0))
+
+-- Of coil_find's answer and both lent numbers, the promise admits one value each.
+pub coil-find-one-answer : (b : List ℕ) (l exam slot : ℕ) {r₁ o₁ s₁ r₂ o₂ s₂ : ℕ} → CoilFinds b l exam slot r₁ o₁ s₁ → CoilFinds b l exam slot r₂ o₂ s₂ → (r₁ ≡ r₂) × (o₁ ≡ o₂) × (s₁ ≡ s₂)
+coil-find-one-answer b l exam slot p q =
+    let a = p ∙ sym q in
+    (ap (λ (x : Located). x .number) a, ap (λ (x : Located). x .offset) a, ap (λ (x : Located). x .size) a)
+
+-- Of coil_fetch's answer, both tables, the words and the lent count, the promise admits one value each.
+pub coil-fetch-one-answer : {b : List ℕ} {l exam slot : ℕ} {fcm dfcm words f₁ d₁ w₁ f₂ d₂ w₂ : List ℕ} {r₁ n₁ r₂ n₂ : ℕ}
+    → CoilFetches b l exam slot fcm dfcm words r₁ f₁ d₁ w₁ n₁ → CoilFetches b l exam slot fcm dfcm words r₂ f₂ d₂ w₂ n₂ → (r₁ ≡ r₂) × (f₁ ≡ f₂) × (d₁ ≡ d₂) × (w₁ ≡ w₂) × (n₁ ≡ n₂)
+coil-fetch-one-answer p q =
+    let a = fetch-one-answer p q in
+    (ap (λ (x : Unpacked). x .number) (a .0), a .1, a .2, a .3, ap (λ (x : Unpacked). x .count) (a .0))
+
+-- Of coil_append's answer, the buffer, both tables, the bench buffer and the lent length, the promise admits one value each.
+pub coil-append-one-answer : {b : List ℕ} {l exam slot : ℕ} {words fcm dfcm bench b₁ f₁ d₁ n₁ b₂ f₂ d₂ n₂ : List ℕ} {r₁ l₁ r₂ l₂ : ℕ}
+    → CoilAppends b l exam slot words fcm dfcm bench r₁ b₁ f₁ d₁ n₁ l₁ → CoilAppends b l exam slot words fcm dfcm bench r₂ b₂ f₂ d₂ n₂ l₂
+    → (r₁ ≡ r₂) × (b₁ ≡ b₂) × (f₁ ≡ f₂) × (d₁ ≡ d₂) × (n₁ ≡ n₂) × (l₁ ≡ l₂)
+coil-append-one-answer p q =
+    let a = append-one-answer p q in
+    (ap (λ (x : Made). x .number) (a .0), a .1, a .2, a .3, a .4, ap (λ (x : Made). x .length) (a .0))
+
+-- ---- a refusal puts 0 into every lent number and leaves everything else as it was
+
+-- coil_pack.
+pub coil-refused-pack : {words fcm dfcm out f' d' out' : List ℕ} {r l : ℕ} → CoilPacks words fcm dfcm out r f' d' out' l → (r ≡ 0 → ⊥) → (l ≡ 0) × (f' ≡ fcm) × (d' ≡ dfcm) × (out' ≡ out)
+coil-refused-pack c h = refused-pack-changes-nothing c h
+
+-- coil_unpack.
+pub coil-refused-unpack : {block fcm dfcm words f' d' w' : List ℕ} {r n : ℕ} → CoilUnpacks block fcm dfcm words r f' d' w' n → (r ≡ 0 → ⊥) → (n ≡ 0) × (f' ≡ fcm) × (d' ≡ dfcm) × (w' ≡ words)
+coil-refused-unpack c h = refused-unpack-changes-nothing c h
+
+-- coil_create.
+pub coil-refused-create : {b b' : List ℕ} {exam t r l : ℕ} → CoilCreates b exam t r b' l → (r ≡ 0 → ⊥) → (l ≡ 0) × (b' ≡ b)
+coil-refused-create c h = refused-create-changes-nothing c h
+
+-- coil_find.
+pub coil-refused-find : (b : List ℕ) (l exam slot : ℕ) {r offset size : ℕ} → CoilFinds b l exam slot r offset size → (r ≡ 0 → ⊥) → (offset ≡ 0) × (size ≡ 0)
+coil-refused-find b l exam slot c h =
+    let a = refused-locate-tells-nothing b l exam slot (λ z. h (ap (λ (x : Located). x .number) c ∙ z)) in
+    (ap (λ (x : Located). x .offset) c ∙ a .0, ap (λ (x : Located). x .size) c ∙ a .1)
+
+-- coil_fetch.
+pub coil-refused-fetch : {b : List ℕ} {l exam slot : ℕ} {fcm dfcm words f' d' w' : List ℕ} {r n : ℕ} → CoilFetches b l exam slot fcm dfcm words r f' d' w' n → (r ≡ 0 → ⊥)
+    → (n ≡ 0) × (f' ≡ fcm) × (d' ≡ dfcm) × (w' ≡ words)
+coil-refused-fetch c h = refused-fetch-changes-nothing c h
+
+-- coil_append.
+pub coil-refused-append : {b : List ℕ} {l exam slot : ℕ} {words fcm dfcm bench b' f' d' n' : List ℕ} {r m : ℕ} → CoilAppends b l exam slot words fcm dfcm bench r b' f' d' n' m → (r ≡ 0 → ⊥)
+    → (m ≡ 0) × (b' ≡ b) × (f' ≡ fcm) × (d' ≡ dfcm) × (n' ≡ bench)
+coil-refused-append c h = refused-append-changes-nothing c h
+
+-- ---- a file opens only for its own exam number
+
+-- Where coil_open answers 0, the exam number in the file is the one asked for, and not 0.
+pub coil-own-exam : (b : List ℕ) (l exam : ℕ) {r : ℕ} → CoilOpens b l exam r → r ≡ 0 → (examIn (take l b) ≡ exam) × (0 < exam)
+coil-own-exam b l exam c e = own-exam b l exam (sym c ∙ e)
+
+-- Where coil_find answers 0, too. The block has at least 8 bytes, so a length of 0 means refused, and it lies within the file.
+pub coil-find-own-exam : (b : List ℕ) (l exam slot : ℕ) {r offset size : ℕ} → CoilFinds b l exam slot r offset size → r ≡ 0
+    → (examIn (take l b) ≡ exam) × (8 ≤ size) × (offset + size ≤ l)
+coil-find-own-exam b l exam slot c e =
+    let k = located-has b l exam slot (sym (ap (λ (x : Located). x .number) c) ∙ e) in
+    (k .0, rw (ap (λ (x : Located). x .size) c) (k .1), rw (ap (λ (x : Located). x .offset) c, ap (λ (x : Located). x .size) c) (k .2))
+
+-- Where coil_fetch answers 0, too.
+pub coil-fetch-own-exam : {b : List ℕ} {l exam slot : ℕ} {fcm dfcm words f' d' w' : List ℕ} {r n : ℕ} → CoilFetches b l exam slot fcm dfcm words r f' d' w' n → r ≡ 0 → examIn (take l b) ≡ exam
+coil-fetch-own-exam c e = fetch-accepts c .0 e .finds .opens .own
+
+-- Where coil_append answers 0, too.
+pub coil-append-own-exam : {b : List ℕ} {l exam slot : ℕ} {words fcm dfcm bench b' f' d' n' : List ℕ} {r m : ℕ} → CoilAppends b l exam slot words fcm dfcm bench r b' f' d' n' m → r ≡ 0
+    → examIn (take l b) ≡ exam
+coil-append-own-exam c e = append-accepts c .0 e .opens .own

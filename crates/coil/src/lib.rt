@@ -1,0 +1,119 @@
+// The calls of the store for C: each is the store's own call, with its number as the answer and what
+// it tells beside put through lent numbers. include/coil.h declares them.
+ghost use Rattle.coil.specs.Calls.{CoilOpens, CoilChecks, CoilPacks, CoilUnpacks, CoilCreates, CoilFinds, CoilFetches, CoilAppends};
+
+// Opens the file in the first bytes of a buffer for an exam number, which must be its own.
+#[no_mangle]
+pub extern "C" fn coil_open(file: &[u8], length: usize, exam: u64) -> u32
+    ensures { λ r. ⌜ CoilOpens (now (file .entry)) length exam r ⌝ }
+{
+    exams::opened_number(exams::open(file, length, exam))
+}
+
+// Checks a block.
+#[no_mangle]
+pub extern "C" fn coil_check(block: &[u8]) -> u32
+    ensures { λ r. ⌜ CoilChecks (now (block .entry)) r ⌝ }
+{
+    let answer = blocks::check(block);
+    answer.number
+}
+
+// Packs words into a block at the start of out.
+#[no_mangle]
+pub extern "C" fn coil_pack(
+    words: &[u64],
+    fcm: &mut [u64],
+    dfcm: &mut [u64],
+    out: &mut [u8],
+    length: &mut usize,
+) -> u32
+    ensures { λ r. ⌜ CoilPacks (now (words .entry)) (now (fcm .entry)) (now (dfcm .entry)) (now (out .entry)) r (now (fcm .exit)) (now (dfcm .exit)) (now (out .exit)) (now (length .exit)) ⌝ }
+{
+    let answer = blocks::pack(words, fcm, dfcm, out);
+    *length = answer.length;
+    answer.number
+}
+
+// Unpacks the words of a block to the start of words.
+#[no_mangle]
+pub extern "C" fn coil_unpack(
+    block: &[u8],
+    fcm: &mut [u64],
+    dfcm: &mut [u64],
+    words: &mut [u64],
+    count: &mut usize,
+) -> u32
+    ensures { λ r. ⌜ CoilUnpacks (now (block .entry)) (now (fcm .entry)) (now (dfcm .entry)) (now (words .entry)) r (now (fcm .exit)) (now (dfcm .exit)) (now (words .exit)) (now (count .exit)) ⌝ }
+{
+    let answer = blocks::unpack(block, fcm, dfcm, words);
+    *count = answer.count;
+    answer.number
+}
+
+// Creates an empty file for an exam at the start of a buffer.
+#[no_mangle]
+pub extern "C" fn coil_create(file: &mut [u8], exam: u64, t: u32, length: &mut usize) -> u32
+    ensures { λ r. ⌜ CoilCreates (now (file .entry)) exam t r (now (file .exit)) (now (length .exit)) ⌝ }
+{
+    let answer = exams::create(file, exam, t);
+    *length = answer.length;
+    answer.number
+}
+
+// Finds where the block of a slot stands in a file.
+#[no_mangle]
+pub extern "C" fn coil_find(
+    file: &[u8],
+    length: usize,
+    exam: u64,
+    slot: u32,
+    offset: &mut usize,
+    block_length: &mut usize,
+) -> u32
+    ensures { λ r. ⌜ CoilFinds (now (file .entry)) length exam slot r (now (offset .exit)) (now («block_length» .exit)) ⌝ }
+{
+    let answer = exams::locate(file, length, exam, slot);
+    *offset = answer.offset;
+    *block_length = answer.size;
+    answer.number
+}
+
+// Fetches the words of a slot to the start of words.
+#[no_mangle]
+pub extern "C" fn coil_fetch(
+    file: &[u8],
+    length: usize,
+    exam: u64,
+    slot: u32,
+    fcm: &mut [u64],
+    dfcm: &mut [u64],
+    words: &mut [u64],
+    count: &mut usize,
+) -> u32
+    ensures { λ r. ⌜ CoilFetches (now (file .entry)) length exam slot (now (fcm .entry)) (now (dfcm .entry)) (now (words .entry)) r (now (fcm .exit)) (now (dfcm .exit)) (now (words .exit)) (now (count .exit)) ⌝ }
+{
+    let answer = exams::fetch(file, length, exam, slot, fcm, dfcm, words);
+    *count = answer.count;
+    answer.number
+}
+
+// Packs words as the block of a slot above the last, and appends it to the file.
+#[no_mangle]
+pub extern "C" fn coil_append(
+    file: &mut [u8],
+    length: usize,
+    exam: u64,
+    slot: u32,
+    words: &[u64],
+    fcm: &mut [u64],
+    dfcm: &mut [u64],
+    bench: &mut [u8],
+    new_length: &mut usize,
+) -> u32
+    ensures { λ r. ⌜ CoilAppends (now (file .entry)) length exam slot (now (words .entry)) (now (fcm .entry)) (now (dfcm .entry)) (now (bench .entry)) r (now (file .exit)) (now (fcm .exit)) (now (dfcm .exit)) (now (bench .exit)) (now («new_length» .exit)) ⌝ }
+{
+    let answer = exams::append(file, length, exam, slot, words, fcm, dfcm, bench);
+    *new_length = answer.length;
+    answer.number
+}

@@ -1,0 +1,5 @@
+pub mod Decimals
+pub mod Lines
+pub mod Walks
+pub mod Answers
+pub mod Claims

@@ -1,0 +1,22 @@
+-- What is promised of the packer's answer to its input, each promise with one line of plain words.
+use mathlib.Core.Path.{_≡_, sym, ap, _∙_}
+use mathlib.Core.List.{List}
+use Prim.Native.Nat.{ℕ}
+use lib.ListN.{length}
+use Rattle.blocks.specs.Calls.{packed}
+use Rattle.blocks.specs.declared.Packed.{Packed}
+use Rattle.blocks.proofs.Checks.{afterwards-old}
+use Rattle.packer.specs.Program.{packerNumber, Answers}
+
+-- Of the answer, both tables and the output, refused or not, the promise admits one value each.
+pub packer-one-answer : {input fcm dfcm out f₁ d₁ o₁ f₂ d₂ o₂ : List ℕ} {r₁ r₂ : Packed}
+    → Answers input fcm dfcm out r₁ f₁ d₁ o₁ → Answers input fcm dfcm out r₂ f₂ d₂ o₂ → (r₁ ≡ r₂) × (f₁ ≡ f₂) × (d₁ ≡ d₂) × (o₁ ≡ o₂)
+packer-one-answer p q = (p .answer ∙ sym (q .answer), p .fcmLeft ∙ sym (q .fcmLeft), p .dfcmLeft ∙ sym (q .dfcmLeft), p .outLeft ∙ sym (q .outLeft))
+
+-- A refusal answers length 0, and leaves both tables and the output as they were.
+pub refused-packer-changes-nothing : {input fcm dfcm out f' d' out' : List ℕ} {r : Packed} → Answers input fcm dfcm out r f' d' out' → (r .number ≡ 0 → ⊥)
+    → (r .length ≡ 0) × (f' ≡ fcm) × (d' ≡ dfcm) × (out' ≡ out)
+unfolding packed
+refused-packer-changes-nothing {input} a h =
+    let k : packerNumber (length input) ≡ 0 → ⊥ = λ z. h (ap (λ (x : Packed). x .number) (a .answer) ∙ z) in
+    (ap (λ (x : Packed). x .length) (a .answer) ∙ afterwards-old _ _ 0 k, a .fcmLeft ∙ afterwards-old _ _ _ k, a .dfcmLeft ∙ afterwards-old _ _ _ k, a .outLeft ∙ afterwards-old _ _ _ k)

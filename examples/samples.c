@@ -1,0 +1,64 @@
+/* Writes the two samples that stand beside this file: map.words, a map of 4,096 values as the packer
+ * takes it, and exam.coil, an exam file with five slots as the lister takes it.
+ *
+ *     samples FOLDER
+ */
+#include "coil.h"
+
+#include <stdio.h>
+#include <stdlib.h>
+#include <string.h>
+
+#define VALUES 4096u
+#define SLOTS 5u
+#define T 10u
+#define EXAM UINT64_C(20240117)
+
+static uint8_t file[COIL_EMPTY_FILE + SLOTS * COIL_APPEND_ROOM(0, VALUES)];
+static uint8_t bench[COIL_WORST(VALUES)];
+static uint64_t fcm[COIL_TABLE_WORDS(T)];
+static uint64_t dfcm[COIL_TABLE_WORDS(T)];
+static uint64_t words[VALUES];
+static uint8_t bytes[8 * VALUES];
+
+/* A made map of 64 by 64 values: the coil sees more of what is near, and outside a disc is air. */
+static void make_map(unsigned coil)
+{
+    for (unsigned i = 0; i < VALUES; i++) {
+        double x = (double)(i % 64), y = (double)(i / 64), value = 0.0;
+        double from_coil = (x - 15.0 * coil) * (x - 15.0 * coil) + y * y;
+        if ((x - 31.5) * (x - 31.5) + (y - 31.5) * (y - 31.5) < 260.0)
+            value = 1.0 / (1.0 + from_coil / 400.0);
+        memcpy(&words[i], &value, sizeof value);
+    }
+}
+
+static void write_file(const char *folder, const char *name, const uint8_t *from, size_t length)
+{
+    char path[1024];
+    snprintf(path, sizeof path, "%s/%s", folder, name);
+    FILE *out = fopen(path, "wb");
+    if (!out || fwrite(from, 1, length, out) != length || fclose(out) != 0) {
+        fprintf(stderr, "cannot write %s\n", path);
+        exit(1);
+    }
+}
+
+int main(int argc, char **argv)
+{
+    size_t length;
+    if (argc != 2 || coil_create(file, sizeof file, EXAM, T, &length) != COIL_DONE)
+        return 2;
+    for (uint32_t slot = 0; slot < SLOTS; slot++) {
+        make_map(slot);
+        if (coil_append(file, sizeof file, length, EXAM, slot, words, VALUES >> slot, fcm, COIL_TABLE_WORDS(T),
+                        dfcm, COIL_TABLE_WORDS(T), bench, sizeof bench, &length) != COIL_DONE)
+            return 1;
+    }
+    make_map(0);
+    for (size_t i = 0; i < sizeof bytes; i++)
+        bytes[i] = (uint8_t)(words[i / 8] >> (8 * (i % 8)));
+    write_file(argv[1], "map.words", bytes, sizeof bytes);
+    write_file(argv[1], "exam.coil", file, length);
+    return 0;
+}

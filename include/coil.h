@@ -1,0 +1,248 @@
+/* coil.h - pack 64-bit words into blocks and keep the blocks of one exam in one file.
+ *
+ * Link with libcoil.a, which is for x86-64 Linux and calls nothing but memset. This header is the
+ * manual. It is C99 and C++17.
+ *
+ * WHAT THE STORE DOES
+ *
+ * A word is 64 bits. The store never reads it as a number with a fraction. Copy your doubles into
+ * words with memcpy: both zeros, infinities and every NaN pattern come back unchanged.
+ *
+ * A block holds 0 to 65,536 words. An exam file holds up to 1,024 blocks, each under its own slot
+ * number, and one exam number for all of them. Both live in your memory. Reading and writing disks
+ * is your part.
+ *
+ * WHAT YOU LEND
+ *
+ * Every pointer is lent for the time of the call only. The library allocates nothing, prints nothing
+ * and keeps nothing between calls: no pointer, no table, no setting. It has no global state. Two
+ * threads may call at once as long as neither writes into memory that the other uses.
+ *
+ * The C side is checked by nothing. These four rules are yours to keep, and breaking one is undefined:
+ *
+ *   1. Each pointer must be valid for its length. The length of a byte buffer is in bytes, the length
+ *      of a word buffer is in words of 8 bytes.
+ *   2. Each pointer to words must be aligned for uint64_t, each pointer to a number for size_t.
+ *   3. No pointer may be null, not even where the length is 0.
+ *   4. The buffers and numbers of one call must not overlap.
+ *
+ * WHAT IS ANSWERED
+ *
+ * Every call answers one number, 0 to 12, listed below. 0 is success.
+ *
+ *   On success, each lent number holds its result. Each buffer written holds its result first and its
+ *   old content beyond. Both tables hold the state of the predictors after the last word.
+ *
+ *   On a refusal, each lent number (length, count, offset, block_length, new_length) is 0. Nothing
+ *   else you lent has changed, the tables included.
+ *
+ * Where several rules are broken, the first check of the call's list answers.
+ *
+ * TABLES
+ *
+ * Packing and unpacking need two tables, fcm and dfcm, both of 2^t words with t from 0 to 16. The call
+ * clears both before it uses them, so old content does not matter, and the same two tables can serve
+ * every call, one call after the other. t = 10 (1,024 words, 8 KiB a table) is a fair start.
+ *
+ * TWO WARNINGS
+ *
+ *   A block does not tell its t. Unpacking a block with tables of another size than it was packed with
+ *   may answer 0 and give other words. So keep maps in exam files: a file tells its t, and coil_fetch
+ *   refuses tables of another size.
+ *
+ *   There is no checksum. Damage that breaks a rule is refused. Damage that breaks none is believed. It
+ *   can be in the residual bytes, the codes or the word count of a block, or in the file's t: then other
+ *   words come out. It can be in a slot number or in the exam number: then the words answer to another
+ *   slot or exam. Where storage can damage bytes, keep a checksum of your own.
+ */
+#ifndef COIL_H
+#define COIL_H
+
+#include <stddef.h>
+#include <stdint.h>
+
+#ifdef __cplusplus
+extern "C" {
+#endif
+
+/* ---- Limits and room -------------------------------------------------------------------------- */
+
+/* Most words in one block. */
+#define COIL_MOST_WORDS 65536u
+/* Most bytes in one exam file. */
+#define COIL_MOST_FILE_BYTES 16777216u
+/* Most entries (slots) in one exam file. */
+#define COIL_MOST_ENTRIES 1024u
+/* Largest t. */
+#define COIL_MOST_T 16u
+/* Bytes of an exam file without a slot. */
+#define COIL_EMPTY_FILE 32u
+
+/* Words in each of the two tables for t from 0 to 16. */
+#define COIL_TABLE_WORDS(t) ((size_t)1 << (t))
+
+/* Bytes that the block of n words needs at worst: 8 + n/2 rounded up + 8n. For 65,536 words this is
+ * 557,064. Packing asks for this room beforehand, whatever the words are. */
+#define COIL_WORST(n) ((size_t)8 + ((size_t)(n) + 1) / 2 + 8 * (size_t)(n))
+
+/* Bytes of buffer that appending n words asks for, where the file has length bytes now. The answer of
+ * the append is the new length, often much smaller. */
+#define COIL_APPEND_ROOM(length, n) ((size_t)(length) + 12 + COIL_WORST(n))
+
+/* ---- Numbers answered ------------------------------------------------------------------------- */
+
+/* Done. */
+#define COIL_DONE 0u
+/* The two tables differ in length, or the length is not a power of two from 1 to 65,536. For a file:
+ * the length is not 2^t with the file's own t. */
+#define COIL_BAD_TABLES 1u
+/* More than 65,536 words given, or declared by the block. */
+#define COIL_TOO_MANY_WORDS 2u
+/* A buffer you lent for the result has not enough room; or, for an append, COIL_APPEND_ROOM passes
+ * 16,777,216 bytes. */
+#define COIL_NO_ROOM 3u
+/* The block is under 8 bytes, or the file under 32; or the file's length is beyond its buffer. */
+#define COIL_TOO_SHORT 4u
+/* The block's length field is not the length of the bytes given, or is not what its codes add up to. */
+#define COIL_BAD_BLOCK_LENGTH 5u
+/* The block has an odd count, and the unused half of its last code byte is not 7. */
+#define COIL_BAD_FILLER 6u
+/* The file's trailer breaks a rule other than the exam number, or the file is over 16,777,216 bytes.
+ * At creation: t is above 16. */
+#define COIL_BAD_TRAILER 7u
+/* The exam number is 0, or is not the one asked for. */
+#define COIL_WRONG_EXAM 8u
+/* The file's directory breaks a rule. */
+#define COIL_BAD_DIRECTORY 9u
+/* The slot is not in the file. */
+#define COIL_NO_SUCH_SLOT 10u
+/* Append: the slot is not above the last slot of the file. */
+#define COIL_SLOT_NOT_ABOVE 11u
+/* Append: the file has 1,024 entries already. */
+#define COIL_FILE_FULL 12u
+
+/* ---- Blocks ----------------------------------------------------------------------------------- */
+
+/* Pack words into a block.
+ *
+ *   words, words_len   the words; read only
+ *   fcm, dfcm          the two tables; cleared and used
+ *   out, out_len       room for the block; lend at least COIL_WORST(words_len) bytes
+ *   length             becomes the length of the block in bytes
+ *
+ * Checks in order: 1 tables; 2 more than 65,536 words; 3 out_len under COIL_WORST(words_len).
+ * On success the first *length bytes of out are the block and the rest of out is as it was. */
+uint32_t coil_pack(const uint64_t *words, size_t words_len,
+                   uint64_t *fcm, size_t fcm_len, uint64_t *dfcm, size_t dfcm_len,
+                   uint8_t *out, size_t out_len, size_t *length);
+
+/* Check that bytes are one well-formed block, neither more nor less. Needs no table and writes nothing.
+ *
+ *   block, block_len   the bytes; read only
+ *
+ * Checks in order: 4 under 8 bytes; 2 declares more than 65,536 words; 5 length; 6 filler.
+ * A block that passes is not refused by coil_unpack, given two tables of one size and the room. It need
+ * not be a block that coil_pack would write. The number of words it declares is its first 4 bytes, least significant byte
+ * first: so much room coil_unpack asks for. */
+uint32_t coil_check(const uint8_t *block, size_t block_len);
+
+/* Unpack a block into words.
+ *
+ *   block, block_len   the block, exactly its bytes; read only
+ *   fcm, dfcm          the two tables, of the size the block was packed with; cleared and used
+ *   words, words_len   room for the words; as many as the block declares are enough
+ *   count              becomes the number of words
+ *
+ * Checks in order: 1 tables; then those of coil_check (4, 2, 5, 6); 3 words_len under the count.
+ * On success the first *count words are the result and the rest of words is as it was.
+ * Tables of another size than the block was packed with may give other words and the answer 0. */
+uint32_t coil_unpack(const uint8_t *block, size_t block_len,
+                     uint64_t *fcm, size_t fcm_len, uint64_t *dfcm, size_t dfcm_len,
+                     uint64_t *words, size_t words_len, size_t *count);
+
+/* ---- Exam files ------------------------------------------------------------------------------- */
+
+/* A file is lent as a buffer of file_len bytes. The file itself is the first length bytes of it. What
+ * lies beyond length is free room for appending. Keep the length with the buffer: each call that makes
+ * or changes a file answers the new one. To store the file on disk, write its first length bytes.
+ *
+ * "open" in the lists of checks below is all of coil_open's checks in their order. */
+
+/* Make an empty exam file at the start of a buffer. What the buffer held there is lost.
+ *
+ *   file, file_len     the buffer; 32 bytes (COIL_EMPTY_FILE) are enough to create
+ *   exam               the exam number, any but 0
+ *   t                  tables of 2^t words will be used for every slot; 0 to 16
+ *   length             becomes the file's length, 32
+ *
+ * Checks in order: 8 exam number 0; 7 t above 16; 3 file_len under 32. */
+uint32_t coil_create(uint8_t *file, size_t file_len, uint64_t exam, uint32_t t, size_t *length);
+
+/* Check that bytes are an exam file of the exam asked for. Writes nothing. There is nothing to close.
+ *
+ *   file, file_len     the buffer; read only
+ *   length             the file's length
+ *   exam               the exam number asked for
+ *
+ * Checks in order: 4 length under 32 or beyond file_len; 7 file over 16,777,216 bytes or trailer;
+ * 8 exam number; 9 directory.
+ * The blocks themselves are not checked here. coil_fetch checks the block it reads.
+ * A program that does not know the t of a file it has opened finds it in the 2 bytes from
+ * file[length - 26], and the number of entries in the 4 bytes from file[length - 12], both least
+ * significant byte first. */
+uint32_t coil_open(const uint8_t *file, size_t file_len, size_t length, uint64_t exam);
+
+/* Find the block of a slot.
+ *
+ *   file .. exam       as for coil_open
+ *   slot               the slot asked for, any 32-bit number
+ *   offset             becomes the block's first byte in the file
+ *   block_length       becomes the block's length in bytes
+ *
+ * Checks in order: open (4, 7, 8, 9); 10 slot not in the file.
+ * On success the block is file[*offset] up to file[*offset + *block_length - 1], inside the file, at
+ * least 8 bytes, and not yet checked. On a refusal both numbers are 0; a block_length of 0 always
+ * means refused. */
+uint32_t coil_find(const uint8_t *file, size_t file_len, size_t length, uint64_t exam, uint32_t slot,
+                   size_t *offset, size_t *block_length);
+
+/* Fetch the words of a slot.
+ *
+ *   file .. slot       as for coil_find
+ *   fcm, dfcm          the two tables, of 2^t words with the file's t; cleared and used
+ *   words, words_len   room for the words; as many as the slot holds are enough
+ *   count              becomes the number of words
+ *
+ * Checks in order: open (4, 7, 8, 9); 10 slot; 1 tables; the block's checks (2, 5, 6); 3 words_len
+ * under the count.
+ * On success the first *count words are the result and the rest of words is as it was. */
+uint32_t coil_fetch(const uint8_t *file, size_t file_len, size_t length, uint64_t exam, uint32_t slot,
+                    uint64_t *fcm, size_t fcm_len, uint64_t *dfcm, size_t dfcm_len,
+                    uint64_t *words, size_t words_len, size_t *count);
+
+/* Append words under a new slot, which must be above every slot in the file.
+ *
+ *   file, file_len     the buffer; lend at least COIL_APPEND_ROOM(length, words_len) bytes
+ *   length, exam       as for coil_open
+ *   slot               the new slot
+ *   words, words_len   the words; read only
+ *   fcm, dfcm          the two tables, of 2^t words with the file's t; cleared and used
+ *   bench, bench_len   room to pack in; lend at least COIL_WORST(words_len) bytes
+ *   new_length         becomes the file's new length, and 0 on a refusal: lend another variable than the
+ *                      one that holds the old length, which is still right then
+ *
+ * Checks in order: open (4, 7, 8, 9); 12 file has 1,024 entries; 11 slot not above the last; 1 tables;
+ * 2 more than 65,536 words; 3 COIL_APPEND_ROOM(length, words_len) above file_len or above 16,777,216,
+ * or bench_len under COIL_WORST(words_len).
+ * On success the new block is also in the first bytes of bench. Earlier blocks are where they were.
+ * The buffer beyond *new_length, and the bench beyond the block, are as they were. */
+uint32_t coil_append(uint8_t *file, size_t file_len, size_t length, uint64_t exam, uint32_t slot,
+                     const uint64_t *words, size_t words_len,
+                     uint64_t *fcm, size_t fcm_len, uint64_t *dfcm, size_t dfcm_len,
+                     uint8_t *bench, size_t bench_len, size_t *new_length);
+
+#ifdef __cplusplus
+}
+#endif
+
+#endif

@@ -1,0 +1,336 @@
+/* See calls.h. */
+#include "calls.h"
+#include "coil.h"
+#include "lent.h"
+#include "reference.h"
+#include "words.h"
+
+#include <stdarg.h>
+#include <stdio.h>
+#include <stdlib.h>
+#include <string.h>
+
+/* More than any limit, so that one beyond each limit can be lent as well. */
+#define FILE_BYTES ((size_t)17 << 20)
+#define BLOCK_BYTES ((size_t)600000)
+#define WORD_BYTES ((size_t)8 * 65600)
+#define TABLE_BYTES ((size_t)8 << 17)
+
+static lent the_file, the_block, the_words, the_fcm, the_dfcm, the_first, the_second;
+
+static uint64_t seed_in_use;
+static bool stops_at_first;
+static unsigned long compared;
+static unsigned long failed;
+static char case_text[200];
+
+void prepare_calls(uint64_t seed, bool stop_at_first)
+{
+    seed_in_use = seed;
+    stops_at_first = stop_at_first;
+    seed_random(seed);
+    lent_prepare(&the_file, "file", FILE_BYTES);
+    lent_prepare(&the_block, "block", BLOCK_BYTES);
+    lent_prepare(&the_words, "words", WORD_BYTES);
+    lent_prepare(&the_fcm, "fcm", TABLE_BYTES);
+    lent_prepare(&the_dfcm, "dfcm", TABLE_BYTES);
+    lent_prepare(&the_first, "first number", 8);
+    lent_prepare(&the_second, "second number", 8);
+}
+
+void this_case_is(const char *format, ...)
+{
+    va_list arguments;
+    va_start(arguments, format);
+    vsnprintf(case_text, sizeof case_text, format, arguments);
+    va_end(arguments);
+}
+
+const char *this_case(void)
+{
+    return case_text;
+}
+
+unsigned long comparisons(void)
+{
+    return compared;
+}
+
+unsigned long failures(void)
+{
+    return failed;
+}
+
+static void fail(const char *call, const char *what)
+{
+    failed++;
+    printf("FAILED %s: %s\n    case: %s; seed %llu\n", call, what, case_text,
+           (unsigned long long)seed_in_use);
+    fflush(stdout);
+}
+
+static void stop_where_enough(void)
+{
+    if (failed >= (stops_at_first ? 1u : 20u)) {
+        printf("%lu passed, %lu failed (stopped)\n", compared, failed);
+        exit(1);
+    }
+}
+
+void must_hold(bool holds, const char *what)
+{
+    if (!holds) {
+        fail("rule", what);
+        stop_where_enough();
+    }
+}
+
+void must_answer(outcome result, uint32_t answer)
+{
+    if (result.answer != answer) {
+        char what[80];
+        snprintf(what, sizeof what, "the rules say %u, the reference answered %u", answer, result.answer);
+        fail("rule", what);
+        stop_where_enough();
+    }
+}
+
+void count_comparison(const char *call, bool right)
+{
+    if (right) {
+        compared++;
+    } else {
+        fail(call, "library, reference and rules differ");
+        stop_where_enough();
+    }
+}
+
+/* ---- What one call lends, and what it may change ---- */
+
+typedef enum { ONLY_READ, WRITTEN, A_NUMBER } use_of_lent;
+
+typedef struct {
+    lent *what;
+    use_of_lent use;
+} loan;
+
+static size_t number_of(const lent *l)
+{
+    size_t number;
+    memcpy(&number, lent_reference(l), sizeof number);
+    return number;
+}
+
+static bool loan_is_right(const char *call, const loan *given, uint32_t answer)
+{
+    bool unchanged = given->use == ONLY_READ || (given->use == WRITTEN && answer != 0);
+    const char *fault = lent_fault(given->what, unchanged);
+    if (fault != NULL) {
+        fail(call, fault);
+        lent_print_difference(given->what, unchanged);
+        return false;
+    }
+    if (given->use == A_NUMBER && answer != 0 && number_of(given->what) != 0) {
+        fail(call, "a refusal left a number that is not 0");
+        return false;
+    }
+    return true;
+}
+
+/* Compares everything after both sides were called. */
+static void judge(const char *call, uint32_t library, uint32_t reference, const loan *loans, size_t count)
+{
+    bool right = true;
+    if (library != reference) {
+        char what[80];
+        snprintf(what, sizeof what, "the library answered %u, the reference %u", library, reference);
+        fail(call, what);
+        right = false;
+    }
+    for (size_t i = 0; i < count; i++) {
+        right = loan_is_right(call, &loans[i], reference) && right;
+    }
+    if (right) {
+        compared++;
+    }
+    stop_where_enough();
+}
+
+#define JUDGE(call, loans) judge(call, library, reference, loans, sizeof loans / sizeof loans[0])
+
+static outcome result_of(uint32_t answer)
+{
+    outcome result = { answer, 0, 0, lent_reference(&the_block), NULL };
+    return result;
+}
+
+/* ---- Arguments as both sides take them ---- */
+
+#define LIB(l) lent_library(&l), l.size
+#define REF(l) lent_reference(&l), l.size
+#define LIB_WORDS(l) (uint64_t *)(void *)lent_library(&l), l.size / 8
+#define REF_WORDS(l) (uint64_t *)(void *)lent_reference(&l), l.size / 8
+#define LIB_NUMBER(l) (size_t *)(void *)lent_library(&l)
+#define REF_NUMBER(l) (size_t *)(void *)lent_reference(&l)
+
+static void lend_tables(table_sizes tables)
+{
+    lent_set(&the_fcm, NULL, 0, 8 * tables.fcm);
+    lent_set(&the_dfcm, NULL, 0, 8 * tables.dfcm);
+}
+
+static void lend_file(lent_file file)
+{
+    lent_set(&the_file, file.bytes, file.known, file.buffer);
+}
+
+static void lend_numbers(void)
+{
+    lent_set(&the_first, NULL, 0, 8);
+    lent_set(&the_second, NULL, 0, 8);
+}
+
+/* ---- The calls ---- */
+
+outcome compare_check(const uint8_t *block, size_t block_len)
+{
+    lent_set(&the_block, block, block_len, block_len);
+    uint32_t library = coil_check(LIB(the_block));
+    uint32_t reference = ref_check(REF(the_block));
+    const loan loans[] = { { &the_block, ONLY_READ } };
+    JUDGE("check", loans);
+    return result_of(reference);
+}
+
+outcome compare_pack(const uint64_t *words, size_t count, table_sizes tables, size_t out_len)
+{
+    lent_set(&the_words, words, 8 * count, 8 * count);
+    lent_set(&the_block, NULL, 0, out_len);
+    lend_tables(tables);
+    lend_numbers();
+    uint32_t library = coil_pack(LIB_WORDS(the_words), LIB_WORDS(the_fcm), LIB_WORDS(the_dfcm),
+                                 LIB(the_block), LIB_NUMBER(the_first));
+    uint32_t reference = ref_pack(REF_WORDS(the_words), REF_WORDS(the_fcm), REF_WORDS(the_dfcm),
+                                  REF(the_block), REF_NUMBER(the_first));
+    const loan loans[] = {
+        { &the_words, ONLY_READ }, { &the_fcm, WRITTEN }, { &the_dfcm, WRITTEN },
+        { &the_block, WRITTEN }, { &the_first, A_NUMBER }
+    };
+    JUDGE("pack", loans);
+    outcome result = result_of(reference);
+    result.first = number_of(&the_first);
+    return result;
+}
+
+outcome compare_unpack(const uint8_t *block, size_t block_len, table_sizes tables, size_t room)
+{
+    lent_set(&the_block, block, block_len, block_len);
+    lent_set(&the_words, NULL, 0, 8 * room);
+    lend_tables(tables);
+    lend_numbers();
+    uint32_t library = coil_unpack(LIB(the_block), LIB_WORDS(the_fcm), LIB_WORDS(the_dfcm),
+                                   LIB_WORDS(the_words), LIB_NUMBER(the_first));
+    uint32_t reference = ref_unpack(REF(the_block), REF_WORDS(the_fcm), REF_WORDS(the_dfcm),
+                                    REF_WORDS(the_words), REF_NUMBER(the_first));
+    const loan loans[] = {
+        { &the_block, ONLY_READ }, { &the_fcm, WRITTEN }, { &the_dfcm, WRITTEN },
+        { &the_words, WRITTEN }, { &the_first, A_NUMBER }
+    };
+    JUDGE("unpack", loans);
+    outcome result = result_of(reference);
+    result.first = number_of(&the_first);
+    result.words = (const uint64_t *)(const void *)lent_reference(&the_words);
+    return result;
+}
+
+outcome compare_create(size_t file_len, uint64_t exam, uint32_t t)
+{
+    lent_set(&the_file, NULL, 0, file_len);
+    lend_numbers();
+    uint32_t library = coil_create(LIB(the_file), exam, t, LIB_NUMBER(the_first));
+    uint32_t reference = ref_create(REF(the_file), exam, t, REF_NUMBER(the_first));
+    const loan loans[] = { { &the_file, WRITTEN }, { &the_first, A_NUMBER } };
+    JUDGE("create", loans);
+    outcome result = result_of(reference);
+    result.first = number_of(&the_first);
+    result.bytes = lent_reference(&the_file);
+    return result;
+}
+
+outcome compare_open(lent_file file)
+{
+    lend_file(file);
+    uint32_t library = coil_open(LIB(the_file), file.length, file.exam);
+    uint32_t reference = ref_open(REF(the_file), file.length, file.exam);
+    const loan loans[] = { { &the_file, ONLY_READ } };
+    JUDGE("open", loans);
+    return result_of(reference);
+}
+
+outcome compare_find(lent_file file, uint32_t slot)
+{
+    lend_file(file);
+    lend_numbers();
+    uint32_t library = coil_find(LIB(the_file), file.length, file.exam, slot,
+                                 LIB_NUMBER(the_first), LIB_NUMBER(the_second));
+    uint32_t reference = ref_find(REF(the_file), file.length, file.exam, slot,
+                                  REF_NUMBER(the_first), REF_NUMBER(the_second));
+    const loan loans[] = {
+        { &the_file, ONLY_READ }, { &the_first, A_NUMBER }, { &the_second, A_NUMBER }
+    };
+    JUDGE("find", loans);
+    outcome result = result_of(reference);
+    result.first = number_of(&the_first);
+    result.second = number_of(&the_second);
+    must_hold(result.answer != 0 || result.second >= 8, "a found block has at least 8 bytes");
+    must_hold(result.answer != 0 || (result.first <= file.length - 44
+                                     && result.second <= file.length - 44 - result.first),
+              "a found block lies inside the file");
+    return result;
+}
+
+outcome compare_fetch(lent_file file, uint32_t slot, table_sizes tables, size_t room)
+{
+    lend_file(file);
+    lent_set(&the_words, NULL, 0, 8 * room);
+    lend_tables(tables);
+    lend_numbers();
+    uint32_t library = coil_fetch(LIB(the_file), file.length, file.exam, slot, LIB_WORDS(the_fcm),
+                                  LIB_WORDS(the_dfcm), LIB_WORDS(the_words), LIB_NUMBER(the_first));
+    uint32_t reference = ref_fetch(REF(the_file), file.length, file.exam, slot, REF_WORDS(the_fcm),
+                                   REF_WORDS(the_dfcm), REF_WORDS(the_words), REF_NUMBER(the_first));
+    const loan loans[] = {
+        { &the_file, ONLY_READ }, { &the_fcm, WRITTEN }, { &the_dfcm, WRITTEN },
+        { &the_words, WRITTEN }, { &the_first, A_NUMBER }
+    };
+    JUDGE("fetch", loans);
+    outcome result = result_of(reference);
+    result.first = number_of(&the_first);
+    result.words = (const uint64_t *)(const void *)lent_reference(&the_words);
+    return result;
+}
+
+outcome compare_append(lent_file file, uint32_t slot, const uint64_t *words, size_t count,
+                       table_sizes tables, size_t bench_len)
+{
+    lend_file(file);
+    lent_set(&the_words, words, 8 * count, 8 * count);
+    lent_set(&the_block, NULL, 0, bench_len);
+    lend_tables(tables);
+    lend_numbers();
+    uint32_t library = coil_append(LIB(the_file), file.length, file.exam, slot, LIB_WORDS(the_words),
+                                   LIB_WORDS(the_fcm), LIB_WORDS(the_dfcm), LIB(the_block),
+                                   LIB_NUMBER(the_first));
+    uint32_t reference = ref_append(REF(the_file), file.length, file.exam, slot, REF_WORDS(the_words),
+                                    REF_WORDS(the_fcm), REF_WORDS(the_dfcm), REF(the_block),
+                                    REF_NUMBER(the_first));
+    const loan loans[] = {
+        { &the_file, WRITTEN }, { &the_words, ONLY_READ }, { &the_fcm, WRITTEN },
+        { &the_dfcm, WRITTEN }, { &the_block, WRITTEN }, { &the_first, A_NUMBER }
+    };
+    JUDGE("append", loans);
+    outcome result = result_of(reference);
+    result.first = number_of(&the_first);
+    result.bytes = lent_reference(&the_file);
+    return result;
+}

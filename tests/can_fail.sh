@@ -1,0 +1,87 @@
+#!/usr/bin/env bash
+# Shows that compare can fail: each slip of slips.sh, built as the library, must be seen by it.
+#
+#     tests/can_fail.sh
+#
+# Runs with this machine's own compiler where there is one, as no library is needed. Builds in
+# target/tests/can_fail, where the log of each slip stays.
+set -u
+tests=$(cd "$(dirname "${BASH_SOURCE[0]}")" && pwd)
+build=$tests/../target/tests/can_fail
+compiler=${CC:-cc}
+runner=()
+flags=(-std=c99 -I "$tests/../include" -I "$tests")
+parts=(compare calls lent words inputs group_blocks group_files group_order group_damage group_far reference)
+at_once=2
+
+if ! command -v "$compiler" >/dev/null; then
+    echo "no compiler $compiler for this machine; taking the one for x86-64, which is slower"
+    source "$tests/tools.sh"
+    need_x86_tools || exit 1
+    compiler=$CC_X86
+    runner=($RUN_X86)
+    flags+=(-static)
+fi
+rm -rf "$build"
+mkdir -p "$build"
+for part in "${parts[@]}"; do
+    "$compiler" "${flags[@]}" -O1 -Wall -Wextra -Wpedantic -Werror \
+        -c "$tests/$part.c" -o "$build/$part.o" || exit 1
+done
+objects=("${parts[@]/#/$build/}")
+objects=("${objects[@]/%/.o}")
+
+# Builds one stand-in library from a source and compares it. 0: compare passed, 1: failed, 2: not built.
+try() {
+    local name=$1 source=$2
+    "$compiler" "${flags[@]}" -w -DREFERENCE_SOURCE="\"$source\"" -c "$tests/as_coil.c" -o "$build/$name.o" &&
+        "$compiler" "${flags[@]}" "${objects[@]}" "$build/$name.o" -o "$build/$name" || return 2
+    "${runner[@]}" "$build/$name" 1 1 first >"$build/$name.log" 2>&1 && return 0
+    grep -q FAILED "$build/$name.log" && return 1
+    return 2
+}
+
+if ! try without_slip "$tests/reference.c"; then
+    echo "FAILED can_fail: the reference without a slip does not pass"
+    exit 1
+fi
+
+right=$(<"$tests/reference.c")
+slips=0
+
+try_slip() {
+    local number=$1 title=$2 result
+    try "slip$number" "$build/slip$number.c"
+    case $? in
+        1) result=seen ;;
+        0) result="NOT SEEN" ;;
+        *) result="NOT BUILT" ;;
+    esac
+    echo "$result: $title" >"$build/slip$number.result"
+    rm -f "$build/slip$number" "$build/slip$number.o"
+}
+
+slip() {
+    local title=$1 old=$2 new=$3
+    local before=${right%%"$old"*} after=${right#*"$old"}
+    slips=$((slips + 1))
+    if [[ $before == "$right" || $after == *"$old"* ]]; then
+        echo "NOT FOUND ONCE: $title" >"$build/slip$slips.result"
+        return
+    fi
+    printf '%s\n' "$before$new$after" >"$build/slip$slips.c"
+    while (($(jobs -rp | wc -l) >= at_once)); do
+        wait -n
+    done
+    try_slip "$slips" "$title" &
+}
+
+# shellcheck source=tests/slips.sh
+source "$tests/slips.sh"
+wait
+
+seen=$(cat "$build"/slip*.result | grep -c '^seen: ')
+cat "$build"/slip*.result | grep -v '^seen: ' | sed 's/^/FAILED can_fail: /'
+echo "can_fail: $slips wrong versions of the library, $seen of them seen by compare"
+echo "$seen passed, $((slips - seen)) failed"
+((seen == slips))

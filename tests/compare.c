@@ -1,0 +1,73 @@
+/* Compares every call of coil.h with the reference.
+ *
+ *     compare [ROUNDS [SEED [first]]]
+ *
+ * More rounds try more random inputs. The seed fixes them all. With "first" it stops at the first
+ * failure, otherwise after twenty.
+ */
+#define _DEFAULT_SOURCE
+#include "calls.h"
+#include "groups.h"
+
+#include <signal.h>
+#include <stdio.h>
+#include <stdlib.h>
+#include <string.h>
+#include <unistd.h>
+
+typedef struct {
+    const char *name;
+    void (*run)(unsigned rounds);
+    const char *about;
+} group;
+
+static const group groups[] = {
+    { "blocks", group_blocks, "pack, check, unpack: every kind of words, every t, room and table size" },
+    { "files", group_files, "create, append, open, find, fetch: lives of files, every length and room" },
+    { "damage", group_damage, "every bit flipped, every cut, changed and forged fields" },
+    { "order", group_order, "several rules broken at once, in every combination" },
+    { "far", group_far, "65,536 words, 1,024 entries, 16 MiB, lengths beyond 32 bits" }
+};
+
+/* A call that touches memory it was not lent ends here. Only calls that are safe in a handler. */
+static void stopped_by_signal(int number)
+{
+    static const char text[] = "FAILED a call touched memory it was not lent, or stopped; case: ";
+    const char *which = this_case();
+    (void)number;
+    if (write(1, text, sizeof text - 1) < 0 || write(1, which, strlen(which)) < 0 || write(1, "\n", 1) < 0) {
+        _exit(3);
+    }
+    _exit(1);
+}
+
+static unsigned long number_from(const char *text, unsigned long otherwise)
+{
+    char *end;
+    unsigned long number = text != NULL ? strtoul(text, &end, 10) : otherwise;
+    if (text != NULL && (*text == '\0' || *end != '\0')) {
+        printf("not a number: %s\n", text);
+        exit(2);
+    }
+    return number;
+}
+
+int main(int count, char **arguments)
+{
+    unsigned long rounds = number_from(count > 1 ? arguments[1] : NULL, 4);
+    unsigned long seed = number_from(count > 2 ? arguments[2] : NULL, 1);
+    signal(SIGSEGV, stopped_by_signal);
+    signal(SIGBUS, stopped_by_signal);
+    signal(SIGILL, stopped_by_signal);
+    signal(SIGABRT, stopped_by_signal);
+    prepare_calls(seed, count > 3 && strcmp(arguments[3], "first") == 0);
+    printf("compare: rounds %lu, seed %lu\n", rounds, seed);
+    for (size_t i = 0; i < sizeof groups / sizeof groups[0]; i++) {
+        unsigned long before = comparisons();
+        groups[i].run((unsigned)rounds);
+        printf("  %-7s %8lu comparisons  %s\n", groups[i].name, comparisons() - before, groups[i].about);
+        fflush(stdout);
+    }
+    printf("%lu passed, %lu failed\n", comparisons(), failures());
+    return failures() != 0;
+}

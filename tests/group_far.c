@@ -1,0 +1,267 @@
+/* The limits: 65,536 words, 1,024 entries, 16,777,216 bytes, and lengths beyond 32 bits. */
+#define _DEFAULT_SOURCE
+#include "coil.h"
+#include "groups.h"
+#include "inputs.h"
+#include "reference.h"
+#include "words.h"
+
+#include <stdio.h>
+#include <stdlib.h>
+#include <string.h>
+#include <sys/mman.h>
+
+#define MOST_WORDS 65536
+#define LIMIT ((size_t)16777216)
+
+static uint64_t words[MOST_WORDS + 1];
+static uint8_t block[WORST(MOST_WORDS + 1)];
+
+static void most_words_of(kind_of_words kind, uint32_t t)
+{
+    this_case_is("65,536 words of %s, t = %u", kind_names[kind], t);
+    make_words(kind, words, MOST_WORDS + 1);
+    must_answer(compare_pack(words, MOST_WORDS + 1, tables_of(t), WORST(MOST_WORDS + 1)), 2);
+    must_answer(compare_pack(words, MOST_WORDS, tables_of(t), WORST(MOST_WORDS) - 1), 3);
+    outcome packed = compare_pack(words, MOST_WORDS, tables_of(t), WORST(MOST_WORDS));
+    must_answer(packed, 0);
+    size_t length = packed.first;
+    memcpy(block, packed.bytes, length);
+    must_answer(compare_check(block, length), 0);
+    must_answer(compare_check(block, length - 1), 5);
+    must_answer(compare_unpack(block, length, tables_of(t), MOST_WORDS - 1), 3);
+    outcome unpacked = compare_unpack(block, length, tables_of(t), MOST_WORDS);
+    must_answer(unpacked, 0);
+    must_hold(memcmp(unpacked.words, words, sizeof words - 8) == 0, "unpacking gives the packed words");
+}
+
+static void most_words(unsigned rounds)
+{
+    static const uint32_t some_t[] = { 16, 0, 10, 15, 6, 1, 13 };
+    for (unsigned kind = 0; kind < KINDS; kind++) {
+        for (unsigned i = 0; i < (rounds < 7 ? 1 : 7); i++) {
+            most_words_of((kind_of_words)kind, some_t[(kind + i) % 7]);
+        }
+    }
+}
+
+static void most_words_in_a_file(void)
+{
+    const size_t room = 12 + WORST(MOST_WORDS + 1);
+    exam_file f = new_exam_file(32 + room, 11, 12);
+    make_words(RUNS, words, MOST_WORDS + 1);
+    this_case_is("65,536 and 65,537 words appended");
+    must_answer(compare_append(lend_with_spare(&f, room), 1, words, MOST_WORDS + 1, tables_of(12),
+                               WORST(MOST_WORDS + 1)), 2);
+    outcome appended = compare_append(lend_with_spare(&f, room), 1, words, MOST_WORDS, tables_of(12),
+                                      WORST(MOST_WORDS));
+    must_answer(appended, 0);
+    take_over(&f, appended);
+    must_answer(compare_fetch(lend_with_spare(&f, 0), 1, tables_of(12), MOST_WORDS - 1), 3);
+    outcome fetched = compare_fetch(lend_with_spare(&f, 0), 1, tables_of(12), MOST_WORDS);
+    must_answer(fetched, 0);
+    must_hold(memcmp(fetched.words, words, sizeof words - 8) == 0, "fetching gives the appended words");
+    forget_exam_file(&f);
+}
+
+/* Well formed but for the count: 65,537 zeros. Also with 65,535 and 65,536 of them. */
+static void one_word_too_many(void)
+{
+    for (size_t count = MOST_WORDS - 1; count <= MOST_WORDS + 1; count++) {
+        size_t length = 8 + (count + 1) / 2;
+        memset(block, 0x77, length);
+        put_field(block, 4, count);
+        put_field(block + 4, 4, length);
+        this_case_is("block that declares %zu words", count);
+        must_answer(compare_check(block, length), count > MOST_WORDS ? 2 : 0);
+        must_answer(compare_unpack(block, length, tables_of(4), count), count > MOST_WORDS ? 2 : 0);
+    }
+}
+
+/* ---- Entries ---- */
+
+static void most_entries(void)
+{
+    static const uint8_t empty_block[8] = { 0, 0, 0, 0, 8, 0, 0, 0 };
+    exam_file f = new_exam_file(32 + 1026 * 32, 9, 1);
+    for (uint32_t slot = 0; f.entries < 1020; slot += 2) {
+        add_block(&f, slot, empty_block, 8);
+    }
+    for (uint32_t slot = 3000; f.entries < 1024; slot += 3) {
+        this_case_is("append the entry after %zu", f.entries);
+        outcome appended = compare_append(lend_with_spare(&f, 29), slot, words, 1, tables_of(1), 17);
+        must_answer(appended, 0);
+        take_over(&f, appended);
+    }
+    this_case_is("file of 1,024 entries");
+    must_answer(compare_open(lend_with_spare(&f, 0)), 0);
+    must_answer(compare_append(lend_with_spare(&f, 29), 9000, words, 1, tables_of(1), 17), 12);
+    must_answer(compare_append(lend_with_spare(&f, 29), 1, words, 1, tables_of(1), 17), 12);
+    must_answer(compare_find(lend_with_spare(&f, 0), 0), 0);
+    must_answer(compare_find(lend_with_spare(&f, 0), 1000), 0);
+    must_answer(compare_find(lend_with_spare(&f, 0), 1001), 10);
+    must_answer(compare_fetch(lend_with_spare(&f, 0), 3009, tables_of(1), 1), 0);
+    add_block(&f, 8000, empty_block, 8);
+    this_case_is("file of 1,025 entries, right but for that");
+    must_answer(compare_open(lend_with_spare(&f, 0)), 7);
+    must_answer(compare_find(lend_with_spare(&f, 0), 8000), 7);
+    must_answer(compare_append(lend_with_spare(&f, 29), 9000, words, 1, tables_of(1), 17), 7);
+    forget_exam_file(&f);
+}
+
+/* ---- 16 MiB ---- */
+
+/* A file of exactly that many bytes: one entry, whose block is not looked at by the calls tried here. */
+static exam_file file_of_length(size_t length)
+{
+    static uint8_t *filling;
+    if (filling == NULL) {
+        filling = calloc(LIMIT + 64, 1);
+    }
+    must_hold(filling != NULL, "memory for the filling");
+    exam_file f = new_exam_file(length, 6, 3);
+    add_block(&f, 5, filling, length - 44);
+    return f;
+}
+
+static void file_at_the_limit(void)
+{
+    for (size_t length = LIMIT - 1; length <= LIMIT + 1; length++) {
+        exam_file f = file_of_length(length);
+        uint32_t expected = length > LIMIT ? 7 : 0;
+        this_case_is("file of %zu bytes", length);
+        must_answer(compare_open(lend_with_spare(&f, 0)), expected);
+        must_answer(compare_find(lend_with_spare(&f, 1), 5), expected);
+        must_answer(compare_fetch(lend_with_spare(&f, 0), 5, tables_of(3), 9), expected ? 7 : 5);
+        must_answer(compare_append(lend_with_spare(&f, 100), 6, words, 1, tables_of(3), 17),
+                    expected ? 7 : 3);
+        lent_file beyond = lend_with_spare(&f, 0);
+        beyond.buffer--;
+        must_answer(compare_open(beyond), 4);
+        forget_exam_file(&f);
+    }
+}
+
+/* An append may reach the limit in the worst case, and not pass it, however large the buffer is. */
+static void append_up_to_the_limit(size_t count)
+{
+    for (size_t beyond = 0; beyond <= 1; beyond++) {
+        exam_file f = file_of_length(LIMIT - 12 - WORST(count) + beyond);
+        this_case_is("append %zu words, %zu beyond the limit", count, beyond);
+        must_answer(compare_append(lend_with_spare(&f, 12 + WORST(count)), 6, words, count, tables_of(3),
+                                   WORST(count)), beyond ? 3 : 0);
+        must_answer(compare_append(lend_with_spare(&f, 100 + WORST(count)), 6, words, count, tables_of(3),
+                                   WORST(count)), beyond ? 3 : 0);
+        must_answer(compare_append(lend_with_spare(&f, 11 + WORST(count)), 6, words, count, tables_of(3),
+                                   WORST(count)), 3);
+        forget_exam_file(&f);
+    }
+}
+
+/* ---- Ends of the numbers ---- */
+
+static void ends_of_slot_and_exam(void)
+{
+    exam_file f = new_exam_file(200, UINT64_MAX, 0);
+    size_t length = forge_block(block, 1);
+    add_block(&f, 0, block, length);
+    add_block(&f, UINT32_MAX, block, length);
+    this_case_is("slots 0 and 2^32 - 1, exam 2^64 - 1");
+    must_answer(compare_find(lend_with_spare(&f, 0), 0), 0);
+    must_answer(compare_find(lend_with_spare(&f, 0), UINT32_MAX), 0);
+    must_answer(compare_find(lend_with_spare(&f, 0), 1), 10);
+    must_answer(compare_append(lend_with_spare(&f, 29), 0, words, 1, tables_of(0), 17), 11);
+    must_answer(compare_append(lend_with_spare(&f, 29), UINT32_MAX, words, 1, tables_of(0), 17), 11);
+    f.exam = UINT32_MAX;
+    must_answer(compare_open(lend_with_spare(&f, 0)), 8);
+    f.exam = 0;
+    must_answer(compare_open(lend_with_spare(&f, 0)), 8);
+    put_field(trailer_of(&f) + AT_EXAM, 8, 0);
+    this_case_is("exam 0 in the trailer and asked for");
+    must_answer(compare_open(lend_with_spare(&f, 0)), 8);
+    f.exam = 1;
+    must_answer(compare_open(lend_with_spare(&f, 0)), 8);
+    forget_exam_file(&f);
+}
+
+/* ---- Lengths beyond 32 bits ---- */
+
+/* One region serves both sides: what is tried here is refused, or writes the same bytes twice. */
+static void judge_far(const char *call, uint32_t library, uint32_t reference, uint32_t expected)
+{
+    this_case_is("%s, a length beyond 32 bits", call);
+    count_comparison(call, library == expected && reference == expected);
+}
+
+#define FAR ((size_t)1 << 32)
+
+static void far_blocks(uint8_t *memory, uint64_t *far_words, uint64_t *more_words)
+{
+    const size_t far = FAR;
+    size_t number = 1;
+    uint64_t table[2] = { 0, 0 };
+    memcpy(memory, "\1\0\0\0\11\0\0\0\x77", 9);
+    judge_far("check", coil_check(memory, far + 9), ref_check(memory, far + 9), 5);
+    judge_far("unpack", coil_unpack(memory, far + 9, table, 1, table + 1, 1, words, 1, &number),
+              ref_unpack(memory, far + 9, table, 1, table + 1, 1, words, 1, &number), 5);
+    judge_far("pack with room", coil_pack(words, 1, table, 1, table + 1, 1, memory, far, &number),
+              ref_pack(words, 1, table, 1, table + 1, 1, memory, far, &number), 0);
+    judge_far("pack of many words",
+              coil_pack(far_words, far + 1, table, 1, table + 1, 1, block, 17, &number),
+              ref_pack(far_words, far + 1, table, 1, table + 1, 1, block, 17, &number), 2);
+    judge_far("pack with long tables",
+              coil_pack(words, 1, far_words, far + 1, more_words, far + 1, block, 17, &number),
+              ref_pack(words, 1, far_words, far + 1, more_words, far + 1, block, 17, &number), 1);
+    must_hold(number == 0, "a refusal leaves 0");
+}
+
+static void far_files(uint8_t *memory)
+{
+    const size_t far = FAR;
+    size_t number = 1;
+    exam_file f = new_exam_file(32, 6, 0);
+    memcpy(memory, f.bytes, 32);
+    judge_far("open", coil_open(memory, far + 32, far + 32, 6), ref_open(memory, far + 32, far + 32, 6), 7);
+    judge_far("open in a large buffer", coil_open(memory, far + 31, 32, 6),
+              ref_open(memory, far + 31, 32, 6), 0);
+    put_field(f.bytes + AT_LENGTH, 8, far + 32);
+    memcpy(memory + far, f.bytes, 32);
+    judge_far("open", coil_open(memory, far + 32, far + 32, 6), ref_open(memory, far + 32, far + 32, 6), 7);
+    judge_far("create", coil_create(memory, far + 1, 6, 0, &number),
+              ref_create(memory, far + 1, 6, 0, &number), 0);
+    forget_exam_file(&f);
+}
+
+/* The memory is only promised, not used: all but a few pages are never touched. */
+static void lengths_beyond_32_bits(void)
+{
+    size_t bytes = 8 * (FAR + 8);
+    void *memory[3];
+    for (unsigned i = 0; i < 3; i++) {
+        memory[i] = mmap(NULL, bytes, PROT_READ | PROT_WRITE,
+                         MAP_PRIVATE | MAP_ANONYMOUS | MAP_NORESERVE, -1, 0);
+        if (memory[i] == MAP_FAILED) {
+            printf("  NOT RUN: lengths beyond 32 bits, as 96 GiB of addresses cannot be had here\n");
+            return;
+        }
+    }
+    far_blocks(memory[0], memory[1], memory[2]);
+    far_files(memory[0]);
+    for (unsigned i = 0; i < 3; i++) {
+        munmap(memory[i], bytes);
+    }
+}
+
+void group_far(unsigned rounds)
+{
+    ends_of_slot_and_exam();
+    most_entries();
+    one_word_too_many();
+    most_words_in_a_file();
+    most_words(rounds);
+    make_words(NOISE, words, MOST_WORDS);
+    file_at_the_limit();
+    append_up_to_the_limit(1);
+    append_up_to_the_limit(301);
+    lengths_beyond_32_bits();
+}

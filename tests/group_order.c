@@ -1,0 +1,184 @@
+/* The order of the checks: every combination of broken rules. The first of the call's list answers. */
+#include "groups.h"
+#include "inputs.h"
+#include "words.h"
+
+#include <stdlib.h>
+#include <string.h>
+
+#define TOO_MANY 65537
+
+static uint64_t *many_words;
+
+/* The answer the rules give: that of the first broken rule in the call's list. */
+static uint32_t first_broken(const uint32_t *list, unsigned rules, unsigned broken)
+{
+    for (unsigned i = 0; i < rules; i++) {
+        if (broken >> i & 1) {
+            return list[i];
+        }
+    }
+    return 0;
+}
+
+/* Tables that are wrong for a file of t = 2, each in another way. */
+#define WRONG_TABLES 3
+static const table_sizes wrong_tables[WRONG_TABLES] = { { 8, 8 }, { 3, 3 }, { 4, 2 } };
+
+static void order_of_pack(void)
+{
+    static const uint32_t list[3] = { 1, 2, 3 };
+    for (unsigned broken = 0; broken < 8; broken++) {
+        size_t count = broken & 2 ? TOO_MANY : 6;
+        table_sizes tables = { 8, broken & 1 ? 7 : 8 };
+        this_case_is("order of pack, broken %X", broken);
+        must_answer(compare_pack(many_words, count, tables, WORST(count) - (broken & 4 ? 1 : 0)),
+                    first_broken(list, 3, broken));
+    }
+}
+
+static void order_of_create(void)
+{
+    static const uint32_t list[3] = { 8, 7, 3 };
+    for (unsigned broken = 0; broken < 8; broken++) {
+        this_case_is("order of create, broken %X", broken);
+        must_answer(compare_create(broken & 4 ? 31 : 32, broken & 1 ? 0 : 5, broken & 2 ? 17 : 16),
+                    first_broken(list, 3, broken));
+    }
+}
+
+/* A block of three zeros with the rules of the mask broken: 4 short, 2 count, 5 length, 6 filler. */
+static size_t broken_block(uint8_t *block, unsigned broken)
+{
+    static const uint8_t right[10] = { 3, 0, 0, 0, 10, 0, 0, 0, 0x77, 0x77 };
+    memcpy(block, right, 10);
+    if (broken & 2) {
+        put_field(block, 4, broken & 4 ? TOO_MANY : UINT32_MAX);
+    }
+    if (broken & 4) {
+        block[4]++;
+    }
+    if (broken & 8) {
+        block[9] = 0x7F;
+    }
+    return broken & 1 ? 7 : 10;
+}
+
+static void order_of_blocks(void)
+{
+    static const uint32_t check_list[4] = { 4, 2, 5, 6 };
+    static const uint32_t unpack_list[6] = { 1, 4, 2, 5, 6, 3 };
+    uint8_t block[10];
+    for (unsigned broken = 0; broken < 16; broken++) {
+        size_t length = broken_block(block, broken);
+        this_case_is("order of check, broken %X", broken);
+        must_answer(compare_check(block, length), first_broken(check_list, 4, broken));
+    }
+    for (unsigned broken = 0; broken < 64; broken++) {
+        size_t length = broken_block(block, broken >> 1 & 15);
+        table_sizes tables = { broken & 1 ? 3 : 4, broken & 1 ? 3 : 4 };
+        this_case_is("order of unpack, broken %X", broken);
+        must_answer(compare_unpack(block, length, tables, broken & 32 ? 2 : 3),
+                    first_broken(unpack_list, 6, broken));
+    }
+}
+
+/* Breaks the rules of the mask in a file: 4 length beyond the buffer, 7 trailer, 8 exam, 9 directory.
+ * Rule 4 leaves the buffer one byte short; the spare is lost with it. */
+static lent_file broken_file(exam_file *f, unsigned broken, size_t spare)
+{
+    if (broken & 2) {
+        put_field(trailer_of(f) + AT_EDITION, 2, 2);
+    }
+    if (broken & 8) {
+        put_field(entry_of(f, 0) + AT_OFFSET, 4, 1);
+    }
+    lent_file lending = lend_with_spare(f, spare);
+    if (broken & 4) {
+        lending.exam++;
+    }
+    if (broken & 1) {
+        lending.buffer = f->length - 1;
+    }
+    return lending;
+}
+
+static void mend_file(exam_file *f)
+{
+    put_field(trailer_of(f) + AT_EDITION, 2, 1);
+    put_field(entry_of(f, 0) + AT_OFFSET, 4, 0);
+}
+
+static void order_of_reading(table_sizes wrong)
+{
+    static const uint32_t list[10] = { 4, 7, 8, 9, 10, 1, 2, 5, 6, 3 };
+    static uint8_t block[10];
+    for (unsigned broken = 0; broken < 1024; broken++) {
+        exam_file f = new_exam_file(100, 77, 2);
+        broken_block(block, broken >> 5 & 14);
+        add_block(&f, 9, block, 10);
+        lent_file lending = broken_file(&f, broken & 15, 0);
+        uint32_t slot = broken & 16 ? 8 : 9;
+        table_sizes tables = broken & 32 ? wrong : tables_of(2);
+        this_case_is("order of fetch, broken %X, wrong tables %zu and %zu", broken, wrong.fcm, wrong.dfcm);
+        must_answer(compare_fetch(lending, slot, tables, broken & 512 ? 2 : 3),
+                    first_broken(list, 10, broken));
+        if (broken < 32) {
+            must_answer(compare_find(lending, slot), first_broken(list, 5, broken));
+            must_answer(compare_open(lending), first_broken(list, 4, broken));
+        }
+        forget_exam_file(&f);
+    }
+}
+
+/* Whether the file is full (rule 12) is the caller's part; the other rules are broken here. */
+static void order_of_append(exam_file *f, bool full, table_sizes wrong)
+{
+    static const uint32_t list[10] = { 4, 7, 8, 9, 12, 11, 1, 2, 3, 3 };
+    uint32_t last = (uint32_t)get_field(entry_of(f, f->entries - 1) + AT_SLOT, 4);
+    for (unsigned broken = 0; broken < 1024; broken++) {
+        bool is_full = broken >> 4 & 1;
+        bool too_many = broken >> 7 & 1;
+        if (is_full != full) {
+            continue;
+        }
+        size_t count = too_many ? TOO_MANY : 2;
+        lent_file lending = broken_file(f, broken & 15, 12 + WORST(count) - (broken & 256 ? 1 : 0));
+        table_sizes tables = broken & 64 ? wrong : tables_of(2);
+        this_case_is("order of append, broken %X, wrong tables %zu and %zu", broken, wrong.fcm, wrong.dfcm);
+        must_answer(compare_append(lending, broken & 32 ? last : last + 1, many_words, count, tables,
+                                   WORST(count) - (broken & 512 ? 1 : 0)),
+                    first_broken(list, 10, broken));
+        mend_file(f);
+    }
+}
+
+static void order_of_appends(table_sizes wrong)
+{
+    static const uint8_t empty_block[8] = { 0, 0, 0, 0, 8, 0, 0, 0 };
+    exam_file f = new_exam_file(32 + 1024 * 20, 5, 2);
+    add_block(&f, 4, empty_block, 8);
+    order_of_append(&f, false, wrong);
+    for (uint32_t slot = 5; f.entries < 1024; slot++) {
+        add_block(&f, slot, empty_block, 8);
+    }
+    order_of_append(&f, true, wrong);
+    forget_exam_file(&f);
+}
+
+void group_order(unsigned rounds)
+{
+    many_words = malloc(8 * TOO_MANY);
+    must_hold(many_words != NULL, "memory for the words");
+    make_words(NOISE, many_words, TOO_MANY);
+    order_of_pack();
+    order_of_create();
+    order_of_blocks();
+    for (unsigned i = 0; i < WRONG_TABLES; i++) {
+        order_of_reading(wrong_tables[i]);
+    }
+    for (unsigned i = 0; i < WRONG_TABLES && i < rounds; i++) {
+        order_of_appends(wrong_tables[i]);
+    }
+    free(many_words);
+}

@@ -1,0 +1,99 @@
+/* Uses every constant, macro and declaration of coil.h. Compiled as C99 and again as C++17.
+ *
+ * A wrong type of a declaration does not compile; a wrong value is counted as failed.
+ */
+#include "coil.h"
+
+#include <stdio.h>
+
+/* Each pointer takes its call only where the types are exactly these. */
+static uint32_t (*const check)(const uint8_t *, size_t) = coil_check;
+static uint32_t (*const pack)(const uint64_t *, size_t, uint64_t *, size_t, uint64_t *, size_t,
+                              uint8_t *, size_t, size_t *) = coil_pack;
+static uint32_t (*const unpack)(const uint8_t *, size_t, uint64_t *, size_t, uint64_t *, size_t,
+                                uint64_t *, size_t, size_t *) = coil_unpack;
+static uint32_t (*const create)(uint8_t *, size_t, uint64_t, uint32_t, size_t *) = coil_create;
+static uint32_t (*const open_file)(const uint8_t *, size_t, size_t, uint64_t) = coil_open;
+static uint32_t (*const find)(const uint8_t *, size_t, size_t, uint64_t, uint32_t,
+                              size_t *, size_t *) = coil_find;
+static uint32_t (*const fetch)(const uint8_t *, size_t, size_t, uint64_t, uint32_t,
+                               uint64_t *, size_t, uint64_t *, size_t,
+                               uint64_t *, size_t, size_t *) = coil_fetch;
+static uint32_t (*const append)(uint8_t *, size_t, size_t, uint64_t, uint32_t, const uint64_t *, size_t,
+                                uint64_t *, size_t, uint64_t *, size_t,
+                                uint8_t *, size_t, size_t *) = coil_append;
+
+static unsigned passed;
+static unsigned failed;
+
+static void is(const char *what, uint64_t value, uint64_t expected)
+{
+    if (value == expected) {
+        passed++;
+    } else {
+        failed++;
+        printf("FAILED %s: %llu, not %llu\n", what,
+               (unsigned long long)value, (unsigned long long)expected);
+    }
+}
+
+static void numbers_and_limits(void)
+{
+    const uint32_t in_order[13] = {
+        COIL_DONE, COIL_BAD_TABLES, COIL_TOO_MANY_WORDS, COIL_NO_ROOM, COIL_TOO_SHORT,
+        COIL_BAD_BLOCK_LENGTH, COIL_BAD_FILLER, COIL_BAD_TRAILER, COIL_WRONG_EXAM, COIL_BAD_DIRECTORY,
+        COIL_NO_SUCH_SLOT, COIL_SLOT_NOT_ABOVE, COIL_FILE_FULL
+    };
+    for (uint32_t number = 0; number < 13; number++) {
+        is("number", in_order[number], number);
+    }
+    is("most words", COIL_MOST_WORDS, 65536);
+    is("most bytes", COIL_MOST_FILE_BYTES, 16777216);
+    is("most entries", COIL_MOST_ENTRIES, 1024);
+    is("most t", COIL_MOST_T, 16);
+    is("empty file", COIL_EMPTY_FILE, 32);
+    is("table, t = 0", COIL_TABLE_WORDS(0), 1);
+    is("table, t = 16", COIL_TABLE_WORDS(COIL_MOST_T), 65536);
+    is("worst of 0", COIL_WORST(0), 8);
+    is("worst of 1", COIL_WORST(1), 17);
+    is("worst of 1 + 2", COIL_WORST(1 + 2), 34);
+    is("worst of all", COIL_WORST(COIL_MOST_WORDS), 557064);
+    is("append room", COIL_APPEND_ROOM(32, 1), 61);
+    is("append room of a sum", 2 * COIL_APPEND_ROOM(30 + 2, 1 + 0), 122);
+}
+
+static uint8_t file[COIL_APPEND_ROOM(COIL_EMPTY_FILE, 2)];
+static uint8_t bench[COIL_WORST(2)];
+static uint64_t fcm[COIL_TABLE_WORDS(3)];
+static uint64_t dfcm[COIL_TABLE_WORDS(3)];
+
+static void every_call_once(void)
+{
+    const uint64_t words[2] = { 1, 3 };
+    uint64_t back[2] = { 0, 0 };
+    size_t block = 0, count = 0, length = 0, offset = 1;
+
+    is("pack", pack(words, 2, fcm, 8, dfcm, 8, bench, sizeof bench, &block), COIL_DONE);
+    is("check", check(bench, block), COIL_DONE);
+    is("count in a block", bench[0] + 256u * bench[1] + bench[2] + bench[3], 2);
+    is("unpack", unpack(bench, block, fcm, 8, dfcm, 8, back, 2, &count), COIL_DONE);
+    is("words", 10 * back[0] + back[1] + count, 15);
+    is("create", create(file, sizeof file, 7, 3, &length), COIL_DONE);
+    is("append", append(file, sizeof file, length, 7, 5, words, 2, fcm, 8, dfcm, 8,
+                        bench, sizeof bench, &length), COIL_DONE);
+    is("open", open_file(file, sizeof file, length, 7), COIL_DONE);
+    is("t in a file", file[length - 26] + 256u * file[length - 25], 3);
+    is("entries in a file", file[length - 12] + 256u * file[length - 11], 1);
+    is("find", find(file, sizeof file, length, 7, 5, &offset, &block), COIL_DONE);
+    is("place", offset + block, length - 44);
+    is("fetch", fetch(file, sizeof file, length, 7, 5, fcm, 8, dfcm, 8, back, 2, &count), COIL_DONE);
+    is("words", 10 * back[0] + back[1] + count, 15);
+}
+
+int main(void)
+{
+    numbers_and_limits();
+    every_call_once();
+    printf("%u passed, %u failed\n", passed, failed);
+    return failed != 0;
+}

@@ -1,0 +1,135 @@
+/* See inputs.h. */
+#include "inputs.h"
+#include "words.h"
+
+#include <stdio.h>
+#include <stdlib.h>
+#include <string.h>
+
+void put_field(uint8_t *at, unsigned bytes, uint64_t value)
+{
+    for (unsigned i = 0; i < bytes; i++) {
+        at[i] = (uint8_t)(value >> (8 * i));
+    }
+}
+
+uint64_t get_field(const uint8_t *at, unsigned bytes)
+{
+    uint64_t value = 0;
+    for (unsigned i = bytes; i > 0; i--) {
+        value = 256 * value + at[i - 1];
+    }
+    return value;
+}
+
+size_t forge_block(uint8_t *block, size_t count)
+{
+    static const size_t written[8] = { 8, 7, 6, 5, 3, 2, 1, 0 };
+    size_t length = 8 + (count + 1) / 2;
+    for (size_t i = 0; i < count; i++) {
+        unsigned code = (unsigned)random_below(16);
+        if (i % 2 == 0) {
+            block[8 + i / 2] = (uint8_t)(16 * code + 7);
+        } else {
+            block[8 + i / 2] = (uint8_t)(block[8 + i / 2] - 7 + code);
+        }
+        random_bytes(block + length, written[code % 8]);
+        length += written[code % 8];
+    }
+    put_field(block, 4, count);
+    put_field(block + 4, 4, length);
+    return length;
+}
+
+static void write_trailer(exam_file *f)
+{
+    uint8_t *trailer = trailer_of(f);
+    memcpy(trailer + AT_MARK, "coil\1\0", 6);
+    put_field(trailer + AT_T, 2, f->t);
+    put_field(trailer + AT_EXAM, 8, f->exam);
+    put_field(trailer + AT_DISTANCE, 4, 32 + 12 * f->entries);
+    put_field(trailer + AT_ENTRIES, 4, f->entries);
+    put_field(trailer + AT_LENGTH, 8, f->length);
+}
+
+exam_file new_exam_file(size_t capacity, uint64_t exam, uint32_t t)
+{
+    exam_file f = { calloc(capacity, 1), capacity, 32, 0, exam, t };
+    if (f.bytes == NULL) {
+        printf("no memory for a file\n");
+        exit(2);
+    }
+    write_trailer(&f);
+    return f;
+}
+
+void forget_exam_file(exam_file *f)
+{
+    free(f->bytes);
+    f->bytes = NULL;
+}
+
+uint8_t *trailer_of(const exam_file *f)
+{
+    return f->bytes + f->length - 32;
+}
+
+uint8_t *entry_of(const exam_file *f, size_t index)
+{
+    return f->bytes + f->length - 32 - 12 * (f->entries - index);
+}
+
+void add_block(exam_file *f, uint32_t slot, const uint8_t *block, size_t block_len)
+{
+    size_t directory = f->length - 32 - 12 * f->entries;
+    if (f->length + block_len + 12 > f->capacity) {
+        printf("the tests made a file too small\n");
+        exit(2);
+    }
+    memmove(f->bytes + directory + block_len, f->bytes + directory, 12 * f->entries);
+    memcpy(f->bytes + directory, block, block_len);
+    f->entries++;
+    f->length += block_len + 12;
+    uint8_t *entry = entry_of(f, f->entries - 1);
+    put_field(entry + AT_SLOT, 4, slot);
+    put_field(entry + AT_OFFSET, 4, directory);
+    put_field(entry + AT_BLOCK_LENGTH, 4, block_len);
+    write_trailer(f);
+}
+
+void take_over(exam_file *f, outcome appended)
+{
+    if (appended.answer != 0) {
+        return;
+    }
+    memcpy(f->bytes, appended.bytes, appended.first);
+    f->length = appended.first;
+    f->entries++;
+}
+
+lent_file lend_with_spare(const exam_file *f, size_t spare)
+{
+    lent_file lending = { f->bytes, f->length, f->length + spare, f->length, f->exam };
+    return lending;
+}
+
+table_sizes tables_of(uint32_t t)
+{
+    table_sizes tables = { (size_t)1 << t, (size_t)1 << t };
+    return tables;
+}
+
+exam_file small_exam_file(uint32_t t, size_t entries, size_t most_words)
+{
+    exam_file f = new_exam_file(32 + entries * (12 + WORST(most_words)), 1 + random_below(1000), t);
+    uint64_t words[64];
+    uint32_t slot = (uint32_t)random_below(3);
+    for (size_t i = 0; i < entries; i++) {
+        size_t count = random_below(most_words + 1);
+        make_words((kind_of_words)random_below(KINDS), words, count);
+        outcome packed = compare_pack(words, count, tables_of(t), WORST(count));
+        add_block(&f, slot, packed.bytes, packed.first);
+        slot += 1 + (uint32_t)random_below(3);
+    }
+    return f;
+}

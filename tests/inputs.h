@@ -1,0 +1,56 @@
+/* Blocks and exam files to try the calls on, written here byte by byte.
+ *
+ * Nothing here uses the library or the reference: it is a second look at the layout, and it can write
+ * what no call would write.
+ */
+#ifndef INPUTS_H
+#define INPUTS_H
+
+#include "calls.h"
+
+#include <stddef.h>
+#include <stdint.h>
+
+#define WORST(n) (8 + ((n) + 1) / 2 + 8 * (n))
+
+/* Places of the fields, counted from the start of the trailer or of an entry. */
+enum {
+    AT_MARK = 0, AT_EDITION = 4, AT_T = 6, AT_EXAM = 8, AT_DISTANCE = 16, AT_ENTRIES = 20, AT_LENGTH = 24
+};
+enum { AT_SLOT = 0, AT_OFFSET = 4, AT_BLOCK_LENGTH = 8 };
+
+void put_field(uint8_t *at, unsigned bytes, uint64_t value);
+uint64_t get_field(const uint8_t *at, unsigned bytes);
+
+/* A block of random codes and random residual bytes, well formed. Answers its length. */
+size_t forge_block(uint8_t *block, size_t count);
+
+typedef struct {
+    uint8_t *bytes;
+    size_t capacity;
+    size_t length;
+    size_t entries;
+    uint64_t exam;
+    uint32_t t;
+} exam_file;
+
+/* An empty file in new memory of that capacity. */
+exam_file new_exam_file(size_t capacity, uint64_t exam, uint32_t t);
+void forget_exam_file(exam_file *f);
+/* Adds an entry, whatever the slot and the bytes of the block are. */
+void add_block(exam_file *f, uint32_t slot, const uint8_t *block, size_t block_len);
+/* Takes over what an append left. */
+void take_over(exam_file *f, outcome appended);
+
+uint8_t *trailer_of(const exam_file *f);
+uint8_t *entry_of(const exam_file *f, size_t index);
+
+/* The file in a buffer with that many bytes more. */
+lent_file lend_with_spare(const exam_file *f, size_t spare);
+
+table_sizes tables_of(uint32_t t);
+
+/* A small file of random slots with words of random kinds. */
+exam_file small_exam_file(uint32_t t, size_t entries, size_t most_words);
+
+#endif

@@ -1,0 +1,535 @@
+/* The rules of the store, one after the other, in plain C99. See reference.h.
+ *
+ * Every "return" with a number below is a line of the rules' table of numbers. The checks stand in
+ * the order of the rules. Nothing lent is written before the last check has passed.
+ */
+#include "reference.h"
+
+#include <stdio.h>
+#include <stdlib.h>
+#include <string.h>
+
+#define MOST_WORDS 65536u
+#define MOST_FILE_BYTES 16777216u
+#define MOST_ENTRIES 1024u
+#define MOST_T 16u
+#define BLOCK_HEADER 8u
+#define ENTRY 12u
+#define TRAILER 32u
+
+static void *room_for(size_t bytes)
+{
+    void *room = calloc(bytes + 1, 1);
+    if (room == NULL) {
+        fprintf(stderr, "reference: no memory\n");
+        exit(2);
+    }
+    return room;
+}
+
+/* ---- Fields: least significant byte first ---- */
+
+static uint64_t read_field(const uint8_t *at, unsigned bytes)
+{
+    uint64_t value = 0;
+    for (unsigned i = 0; i < bytes; i++) {
+        value += (uint64_t)at[i] << (8 * i);
+    }
+    return value;
+}
+
+static void write_field(uint8_t *at, unsigned bytes, uint64_t value)
+{
+    for (unsigned i = 0; i < bytes; i++) {
+        at[i] = (uint8_t)(value >> (8 * i));
+    }
+}
+
+/* ---- The two predictors ---- */
+
+typedef struct {
+    uint64_t entries;   /* 2^t */
+    uint64_t *fcm;
+    uint64_t *dfcm;
+    uint64_t fcm_hash;
+    uint64_t dfcm_hash;
+    uint64_t last;
+} predictors;
+
+/* Own tables, so that the lent ones stay as they are until the call has succeeded. */
+static predictors start_predictors(size_t entries)
+{
+    predictors p;
+    p.entries = entries;
+    p.fcm = room_for(8 * entries);
+    p.dfcm = room_for(8 * entries);
+    p.fcm_hash = 0;
+    p.dfcm_hash = 0;
+    p.last = 0;
+    return p;
+}
+
+static void hand_over_tables(predictors *p, uint64_t *fcm, uint64_t *dfcm)
+{
+    for (uint64_t i = 0; i < p->entries; i++) {
+        fcm[i] = p->fcm[i];
+        dfcm[i] = p->dfcm[i];
+    }
+    free(p->fcm);
+    free(p->dfcm);
+}
+
+static uint64_t fcm_prediction(const predictors *p)
+{
+    return p->fcm[p->fcm_hash];
+}
+
+static uint64_t dfcm_prediction(const predictors *p)
+{
+    return p->dfcm[p->dfcm_hash] + p->last;
+}
+
+static void learn(predictors *p, uint64_t v)
+{
+    uint64_t d = v - p->last;
+    p->fcm[p->fcm_hash] = v;
+    p->dfcm[p->dfcm_hash] = d;
+    p->fcm_hash = ((p->fcm_hash << 6) ^ (v >> 48)) % p->entries;
+    p->dfcm_hash = ((p->dfcm_hash << 2) ^ (d >> 40)) % p->entries;
+    p->last = v;
+}
+
+/* ---- Code and residual bytes ---- */
+
+static unsigned leading_zero_bytes(uint64_t residual)
+{
+    unsigned zero_bytes = 0;
+    while (zero_bytes < 8 && (residual >> (8 * (7 - zero_bytes))) % 256 == 0) {
+        zero_bytes++;
+    }
+    return zero_bytes;
+}
+
+/* zero bytes:                             0  1  2  3  4  5  6  7  8 */
+static const unsigned code_low_bits[9] = { 0, 1, 2, 3, 3, 4, 5, 6, 7 };
+/* low bits:                               0  1  2  3  4  5  6  7 */
+static const unsigned bytes_written[8] = { 8, 7, 6, 5, 3, 2, 1, 0 };
+
+#define DFCM_BIT 8u
+#define FILLER 7u
+
+/* ---- Block ---- */
+
+static uint64_t code_bytes(uint64_t count)
+{
+    return (count + 1) / 2;
+}
+
+static uint64_t worst_length(uint64_t count)
+{
+    return BLOCK_HEADER + code_bytes(count) + 8 * count;
+}
+
+static unsigned read_code(const uint8_t *block, uint64_t index)
+{
+    unsigned pair = block[BLOCK_HEADER + index / 2];
+    return index % 2 == 0 ? pair / 16 : pair % 16;
+}
+
+static void write_code(uint8_t *block, uint64_t index, unsigned code)
+{
+    block[BLOCK_HEADER + index / 2] |= (uint8_t)(index % 2 == 0 ? 16 * code : code);
+}
+
+static uint32_t refuse_tables(size_t fcm_len, size_t dfcm_len)
+{
+    if (fcm_len != dfcm_len) {
+        return 1;
+    }
+    for (unsigned t = 0; t <= MOST_T; t++) {
+        if (fcm_len == (size_t)1 << t) {
+            return 0;
+        }
+    }
+    return 1;
+}
+
+static uint32_t refuse_block(const uint8_t *block, size_t block_len, uint64_t *count)
+{
+    if (block_len < BLOCK_HEADER) {
+        return 4;
+    }
+    uint64_t declared = read_field(block, 4);
+    if (declared > MOST_WORDS) {
+        return 2;
+    }
+    if (read_field(block + 4, 4) != block_len) {
+        return 5;
+    }
+    uint64_t expected = BLOCK_HEADER + code_bytes(declared);
+    if (expected > block_len) {
+        return 5;
+    }
+    for (uint64_t i = 0; i < declared; i++) {
+        expected += bytes_written[read_code(block, i) % 8];
+    }
+    if (expected != block_len) {
+        return 5;
+    }
+    if (declared % 2 == 1 && read_code(block, declared) != FILLER) {
+        return 6;
+    }
+    *count = declared;
+    return 0;
+}
+
+/* Writes the block of the words into a room of at least worst_length bytes, all zero, and answers its
+ * length. */
+static size_t write_block(uint8_t *block, const uint64_t *words, size_t words_len, predictors *p)
+{
+    uint64_t at = BLOCK_HEADER + code_bytes(words_len);
+    for (size_t i = 0; i < words_len; i++) {
+        uint64_t fcm_residual = words[i] ^ fcm_prediction(p);
+        uint64_t dfcm_residual = words[i] ^ dfcm_prediction(p);
+        int dfcm_is_chosen = leading_zero_bytes(dfcm_residual) > leading_zero_bytes(fcm_residual);
+        uint64_t residual = dfcm_is_chosen ? dfcm_residual : fcm_residual;
+        unsigned low_bits = code_low_bits[leading_zero_bytes(residual)];
+        write_code(block, i, low_bits + (dfcm_is_chosen ? DFCM_BIT : 0));
+        write_field(block + at, bytes_written[low_bits], residual);
+        at += bytes_written[low_bits];
+        learn(p, words[i]);
+    }
+    if (words_len % 2 == 1) {
+        write_code(block, words_len, FILLER);
+    }
+    write_field(block, 4, words_len);
+    write_field(block + 4, 4, at);
+    return at;
+}
+
+static void read_block(const uint8_t *block, uint64_t count, uint64_t *words, predictors *p)
+{
+    uint64_t at = BLOCK_HEADER + code_bytes(count);
+    for (uint64_t i = 0; i < count; i++) {
+        unsigned code = read_code(block, i);
+        uint64_t prediction = code >= DFCM_BIT ? dfcm_prediction(p) : fcm_prediction(p);
+        words[i] = prediction ^ read_field(block + at, bytes_written[code % 8]);
+        at += bytes_written[code % 8];
+        learn(p, words[i]);
+    }
+}
+
+/* Packs after every check has passed: fills the tables and the first bytes of out. */
+static size_t pack_now(const uint64_t *words, size_t words_len, uint64_t *fcm, uint64_t *dfcm,
+                       size_t entries, uint8_t *out)
+{
+    predictors p = start_predictors(entries);
+    uint8_t *block = room_for(worst_length(words_len));
+    size_t length = write_block(block, words, words_len, &p);
+    memcpy(out, block, length);
+    free(block);
+    hand_over_tables(&p, fcm, dfcm);
+    return length;
+}
+
+/* ---- Calls on a block ---- */
+
+uint32_t ref_check(const uint8_t *block, size_t block_len)
+{
+    uint64_t count;
+    return refuse_block(block, block_len, &count);
+}
+
+uint32_t ref_pack(const uint64_t *words, size_t words_len,
+                  uint64_t *fcm, size_t fcm_len, uint64_t *dfcm, size_t dfcm_len,
+                  uint8_t *out, size_t out_len, size_t *length)
+{
+    *length = 0;
+    if (refuse_tables(fcm_len, dfcm_len)) {
+        return 1;
+    }
+    if (words_len > MOST_WORDS) {
+        return 2;
+    }
+    if (out_len < worst_length(words_len)) {
+        return 3;
+    }
+    *length = pack_now(words, words_len, fcm, dfcm, fcm_len, out);
+    return 0;
+}
+
+uint32_t ref_unpack(const uint8_t *block, size_t block_len,
+                    uint64_t *fcm, size_t fcm_len, uint64_t *dfcm, size_t dfcm_len,
+                    uint64_t *words, size_t words_len, size_t *count)
+{
+    *count = 0;
+    if (refuse_tables(fcm_len, dfcm_len)) {
+        return 1;
+    }
+    uint64_t declared = 0;
+    uint32_t refusal = refuse_block(block, block_len, &declared);
+    if (refusal) {
+        return refusal;
+    }
+    if (words_len < declared) {
+        return 3;
+    }
+    predictors p = start_predictors(fcm_len);
+    read_block(block, declared, words, &p);
+    hand_over_tables(&p, fcm, dfcm);
+    *count = declared;
+    return 0;
+}
+
+/* ---- Exam file ---- */
+
+typedef struct {
+    uint64_t t;
+    uint64_t entries;
+    uint64_t directory;   /* where the directory starts */
+} opened_file;
+
+static uint64_t entry_slot(const uint8_t *file, const opened_file *f, uint64_t index)
+{
+    return read_field(file + f->directory + ENTRY * index, 4);
+}
+
+static uint64_t entry_offset(const uint8_t *file, const opened_file *f, uint64_t index)
+{
+    return read_field(file + f->directory + ENTRY * index + 4, 4);
+}
+
+static uint64_t entry_length(const uint8_t *file, const opened_file *f, uint64_t index)
+{
+    return read_field(file + f->directory + ENTRY * index + 8, 4);
+}
+
+static void write_trailer(uint8_t *at, uint64_t t, uint64_t exam, uint64_t entries, uint64_t length)
+{
+    memcpy(at, "coil", 4);
+    write_field(at + 4, 2, 1);
+    write_field(at + 6, 2, t);
+    write_field(at + 8, 8, exam);
+    write_field(at + 16, 4, TRAILER + ENTRY * entries);
+    write_field(at + 20, 4, entries);
+    write_field(at + 24, 8, length);
+}
+
+/* Every rule of the trailer but the exam number. */
+static int trailer_is_right(const uint8_t *trailer, uint64_t length)
+{
+    uint64_t edition = read_field(trailer + 4, 2);
+    uint64_t t = read_field(trailer + 6, 2);
+    uint64_t distance = read_field(trailer + 16, 4);
+    uint64_t entries = read_field(trailer + 20, 4);
+    return memcmp(trailer, "coil", 4) == 0
+        && edition == 1
+        && t <= MOST_T
+        && entries <= MOST_ENTRIES
+        && distance == TRAILER + ENTRY * entries
+        && distance <= length
+        && read_field(trailer + 24, 8) == length;
+}
+
+static int directory_is_right(const uint8_t *file, const opened_file *f)
+{
+    uint64_t next_offset = 0;
+    for (uint64_t i = 0; i < f->entries; i++) {
+        if (i > 0 && entry_slot(file, f, i) <= entry_slot(file, f, i - 1)) {
+            return 0;
+        }
+        if (entry_offset(file, f, i) != next_offset) {
+            return 0;
+        }
+        if (entry_length(file, f, i) < BLOCK_HEADER) {
+            return 0;
+        }
+        next_offset = entry_offset(file, f, i) + entry_length(file, f, i);
+    }
+    return next_offset == f->directory;
+}
+
+static uint32_t open_file(const uint8_t *file, size_t file_len, size_t length, uint64_t exam,
+                          opened_file *f)
+{
+    if (length < TRAILER) {
+        return 4;
+    }
+    if (length > file_len) {
+        return 4;
+    }
+    if (length > MOST_FILE_BYTES) {
+        return 7;
+    }
+    const uint8_t *trailer = file + (length - TRAILER);
+    if (!trailer_is_right(trailer, length)) {
+        return 7;
+    }
+    if (read_field(trailer + 8, 8) == 0) {
+        return 8;
+    }
+    if (read_field(trailer + 8, 8) != exam) {
+        return 8;
+    }
+    f->t = read_field(trailer + 6, 2);
+    f->entries = read_field(trailer + 20, 4);
+    f->directory = length - read_field(trailer + 16, 4);
+    if (!directory_is_right(file, f)) {
+        return 9;
+    }
+    return 0;
+}
+
+static uint32_t find_slot(const uint8_t *file, size_t file_len, size_t length, uint64_t exam,
+                          uint32_t slot, opened_file *f, uint64_t *index)
+{
+    uint32_t refusal = open_file(file, file_len, length, exam, f);
+    if (refusal) {
+        return refusal;
+    }
+    for (uint64_t i = 0; i < f->entries; i++) {
+        if (entry_slot(file, f, i) == slot) {
+            *index = i;
+            return 0;
+        }
+    }
+    return 10;
+}
+
+static uint32_t refuse_file_tables(const opened_file *f, size_t fcm_len, size_t dfcm_len)
+{
+    if (refuse_tables(fcm_len, dfcm_len)) {
+        return 1;
+    }
+    if (fcm_len != (size_t)1 << f->t) {
+        return 1;
+    }
+    return 0;
+}
+
+/* ---- Calls on a file ---- */
+
+uint32_t ref_create(uint8_t *file, size_t file_len, uint64_t exam, uint32_t t, size_t *length)
+{
+    *length = 0;
+    if (exam == 0) {
+        return 8;
+    }
+    if (t > MOST_T) {
+        return 7;
+    }
+    if (file_len < TRAILER) {
+        return 3;
+    }
+    write_trailer(file, t, exam, 0, TRAILER);
+    *length = TRAILER;
+    return 0;
+}
+
+uint32_t ref_open(const uint8_t *file, size_t file_len, size_t length, uint64_t exam)
+{
+    opened_file f;
+    return open_file(file, file_len, length, exam, &f);
+}
+
+uint32_t ref_find(const uint8_t *file, size_t file_len, size_t length, uint64_t exam, uint32_t slot,
+                  size_t *offset, size_t *block_length)
+{
+    opened_file f;
+    uint64_t index = 0;
+    *offset = 0;
+    *block_length = 0;
+    uint32_t refusal = find_slot(file, file_len, length, exam, slot, &f, &index);
+    if (refusal) {
+        return refusal;
+    }
+    *offset = entry_offset(file, &f, index);
+    *block_length = entry_length(file, &f, index);
+    return 0;
+}
+
+uint32_t ref_fetch(const uint8_t *file, size_t file_len, size_t length, uint64_t exam, uint32_t slot,
+                   uint64_t *fcm, size_t fcm_len, uint64_t *dfcm, size_t dfcm_len,
+                   uint64_t *words, size_t words_len, size_t *count)
+{
+    opened_file f;
+    uint64_t index = 0;
+    *count = 0;
+    uint32_t refusal = find_slot(file, file_len, length, exam, slot, &f, &index);
+    if (refusal) {
+        return refusal;
+    }
+    if (refuse_file_tables(&f, fcm_len, dfcm_len)) {
+        return 1;
+    }
+    return ref_unpack(file + entry_offset(file, &f, index), entry_length(file, &f, index),
+                      fcm, fcm_len, dfcm, dfcm_len, words, words_len, count);
+}
+
+static uint32_t refuse_append(const uint8_t *file, size_t file_len, size_t length, const opened_file *f,
+                              uint32_t slot, size_t words_len, size_t fcm_len, size_t dfcm_len,
+                              size_t bench_len)
+{
+    if (f->entries >= MOST_ENTRIES) {
+        return 12;
+    }
+    if (f->entries > 0 && slot <= entry_slot(file, f, f->entries - 1)) {
+        return 11;
+    }
+    if (refuse_file_tables(f, fcm_len, dfcm_len)) {
+        return 1;
+    }
+    if (words_len > MOST_WORDS) {
+        return 2;
+    }
+    uint64_t limit = file_len < MOST_FILE_BYTES ? file_len : MOST_FILE_BYTES;
+    if (length + ENTRY + worst_length(words_len) > limit) {
+        return 3;
+    }
+    if (bench_len < worst_length(words_len)) {
+        return 3;
+    }
+    return 0;
+}
+
+/* Writes blocks, new block, old directory, new entry and trailer, in the order of the file. */
+static size_t put_block_in(uint8_t *file, const opened_file *f, uint64_t exam, uint32_t slot,
+                           const uint8_t *block, size_t block_length)
+{
+    size_t old_directory_bytes = ENTRY * f->entries;
+    uint8_t *old_directory = room_for(old_directory_bytes);
+    memcpy(old_directory, file + f->directory, old_directory_bytes);
+
+    size_t at = f->directory;
+    memcpy(file + at, block, block_length);
+    at += block_length;
+    memcpy(file + at, old_directory, old_directory_bytes);
+    at += old_directory_bytes;
+    write_field(file + at, 4, slot);
+    write_field(file + at + 4, 4, f->directory);
+    write_field(file + at + 8, 4, block_length);
+    at += ENTRY;
+    write_trailer(file + at, f->t, exam, f->entries + 1, at + TRAILER);
+    free(old_directory);
+    return at + TRAILER;
+}
+
+uint32_t ref_append(uint8_t *file, size_t file_len, size_t length, uint64_t exam, uint32_t slot,
+                    const uint64_t *words, size_t words_len,
+                    uint64_t *fcm, size_t fcm_len, uint64_t *dfcm, size_t dfcm_len,
+                    uint8_t *bench, size_t bench_len, size_t *new_length)
+{
+    opened_file f;
+    *new_length = 0;
+    uint32_t refusal = open_file(file, file_len, length, exam, &f);
+    if (refusal) {
+        return refusal;
+    }
+    refusal = refuse_append(file, file_len, length, &f, slot, words_len, fcm_len, dfcm_len, bench_len);
+    if (refusal) {
+        return refusal;
+    }
+    size_t block_length = pack_now(words, words_len, fcm, dfcm, fcm_len, bench);
+    *new_length = put_block_in(file, &f, exam, slot, bench, block_length);
+    return 0;
+}

@@ -1,0 +1,38 @@
+/* An independent implementation of the store's rules, to compare the library with.
+ *
+ * Each call has the same arguments and the same answer as the call of coil.h with the same ending.
+ * It is written to be checked by eye against the rules, not to be fast. It may allocate.
+ */
+#ifndef REFERENCE_H
+#define REFERENCE_H
+
+#include <stddef.h>
+#include <stdint.h>
+
+uint32_t ref_check(const uint8_t *block, size_t block_len);
+
+uint32_t ref_pack(const uint64_t *words, size_t words_len,
+                  uint64_t *fcm, size_t fcm_len, uint64_t *dfcm, size_t dfcm_len,
+                  uint8_t *out, size_t out_len, size_t *length);
+
+uint32_t ref_unpack(const uint8_t *block, size_t block_len,
+                    uint64_t *fcm, size_t fcm_len, uint64_t *dfcm, size_t dfcm_len,
+                    uint64_t *words, size_t words_len, size_t *count);
+
+uint32_t ref_create(uint8_t *file, size_t file_len, uint64_t exam, uint32_t t, size_t *length);
+
+uint32_t ref_open(const uint8_t *file, size_t file_len, size_t length, uint64_t exam);
+
+uint32_t ref_find(const uint8_t *file, size_t file_len, size_t length, uint64_t exam, uint32_t slot,
+                  size_t *offset, size_t *block_length);
+
+uint32_t ref_fetch(const uint8_t *file, size_t file_len, size_t length, uint64_t exam, uint32_t slot,
+                   uint64_t *fcm, size_t fcm_len, uint64_t *dfcm, size_t dfcm_len,
+                   uint64_t *words, size_t words_len, size_t *count);
+
+uint32_t ref_append(uint8_t *file, size_t file_len, size_t length, uint64_t exam, uint32_t slot,
+                    const uint64_t *words, size_t words_len,
+                    uint64_t *fcm, size_t fcm_len, uint64_t *dfcm, size_t dfcm_len,
+                    uint8_t *bench, size_t bench_len, size_t *new_length);
+
+#endif

@@ -1,0 +1,240 @@
+/* The reference against the rules' own worked bytes, so that it is not only compared with the library.
+ *
+ * Blocks, hashes and files worked by hand, the table of codes, round trips, and the room a block takes.
+ */
+#include "reference.h"
+#include "words.h"
+
+#include <stdio.h>
+#include <stdlib.h>
+#include <string.h>
+
+#define MOST 400
+#define WORST(n) (8 + ((n) + 1) / 2 + 8 * (n))
+
+static unsigned passed;
+static unsigned failed;
+
+static uint64_t fcm[65536];
+static uint64_t dfcm[65536];
+static uint8_t block[WORST(MOST)];
+static uint8_t bench[WORST(MOST)];
+static uint8_t file[4096];
+
+static void holds(int right, const char *what)
+{
+    if (right) {
+        passed++;
+    } else {
+        failed++;
+        printf("FAILED %s\n", what);
+    }
+}
+
+/* Reads "01 00 ff" and answers the number of bytes. */
+static size_t from_hex(const char *text, uint8_t *bytes)
+{
+    size_t count = 0;
+    char *end;
+    for (unsigned long value = strtoul(text, &end, 16); end != text; value = strtoul(text, &end, 16)) {
+        bytes[count++] = (uint8_t)value;
+        text = end;
+    }
+    return count;
+}
+
+static size_t pack(const uint64_t *words, size_t count, unsigned t)
+{
+    size_t length = 1;
+    uint32_t answer = ref_pack(words, count, fcm, (size_t)1 << t, dfcm, (size_t)1 << t,
+                               block, WORST(count), &length);
+    holds(answer == 0, "packing is done");
+    return length;
+}
+
+/* ---- Blocks worked by hand ---- */
+
+static void packs_to(const uint64_t *words, size_t count, unsigned t, const char *hex)
+{
+    uint8_t expected[64];
+    size_t expected_length = from_hex(hex, expected);
+    size_t length = pack(words, count, t);
+    holds(length == expected_length && memcmp(block, expected, length) == 0, hex);
+}
+
+static void worked_blocks(void)
+{
+    const uint64_t zero[] = { 0 }, one[] = { 1 }, ones[] = { 1, 1 }, ramp[] = { 1, 2, 3 };
+    const uint64_t one_three[] = { 1, 3 }, four_bytes[] = { 0x80000000 }, full[] = { UINT64_MAX, 0 };
+    const uint64_t equal[] = {
+        UINT64_C(0x3FF0000000000000), UINT64_C(0x3FF0000000000000), UINT64_C(0x3FF0000000000000)
+    };
+    packs_to(zero, 0, 0, "00 00 00 00 08 00 00 00");
+    packs_to(zero, 1, 0, "01 00 00 00 09 00 00 00 77");
+    packs_to(one, 1, 0, "01 00 00 00 0A 00 00 00 67 01");
+    packs_to(ones, 2, 0, "02 00 00 00 0A 00 00 00 67 01");
+    packs_to(ramp, 3, 0, "03 00 00 00 0B 00 00 00 6F F7 01");
+    packs_to(one_three, 2, 0, "02 00 00 00 0B 00 00 00 66 01 02");
+    packs_to(four_bytes, 1, 0, "01 00 00 00 0E 00 00 00 37 00 00 00 80 00");
+    packs_to(full, 2, 0, "02 00 00 00 19 00 00 00 00 FF FF FF FF FF FF FF FF FF FF FF FF FF FF FF FF");
+    packs_to(equal, 3, 6, "03 00 00 00 1A 00 00 00 00 77 00 00 00 00 00 00 F0 3F 00 00 00 00 00 00 F0 3F");
+}
+
+static void checks_to(const char *hex, uint32_t answer)
+{
+    uint8_t bytes[64];
+    size_t length = from_hex(hex, bytes);
+    holds(ref_check(bytes, length) == answer, hex);
+}
+
+static void worked_refusals(void)
+{
+    checks_to("01 00 00 00 09 00 00 00 77", 0);
+    checks_to("01 00 00 00 09 00 00 00 76", 6);
+    checks_to("01 00 00 00 09 00 00 00 67", 5);
+    checks_to("01 00 00 00 09 00 00 00 66", 5);
+    checks_to("01 00 00 00 0A 00 00 00 67 00", 0);
+    checks_to("01 00 00 00 0A 00 00", 4);
+    checks_to("01 00 01 00 0A 00 00 00 67 00", 2);
+
+    uint8_t bytes[16];
+    uint64_t word = 9;
+    size_t count = 0;
+    size_t length = from_hex("01 00 00 00 0A 00 00 00 67 00", bytes);
+    uint32_t answer = ref_unpack(bytes, length, fcm, 1, dfcm, 1, &word, 1, &count);
+    holds(answer == 0 && count == 1 && word == 0, "a block we do not write gives word 0");
+}
+
+/* One word with each number of leading zero bytes. The first prediction is 0, so the residual is the
+ * word; the code's low bits and the bytes written are those of the rules' table. */
+static void table_of_codes(void)
+{
+    static const unsigned low_bits[9] = { 0, 1, 2, 3, 3, 4, 5, 6, 7 };
+    static const size_t written[9] = { 8, 7, 6, 5, 5, 3, 2, 1, 0 };
+    for (unsigned zero_bytes = 0; zero_bytes <= 8; zero_bytes++) {
+        uint64_t word = zero_bytes == 8 ? 0 : UINT64_C(0x8877665544332211) >> (8 * zero_bytes);
+        size_t length = pack(&word, 1, 5);
+        holds(length == 9 + written[zero_bytes], "bytes written");
+        holds(block[8] == 16 * low_bits[zero_bytes] + 7, "low bits of the code");
+        int low_byte_first = 1;
+        for (size_t i = 0; i < written[zero_bytes]; i++) {
+            low_byte_first = low_byte_first && block[9 + i] == (uint8_t)(word >> (8 * i));
+        }
+        holds(low_byte_first, "residual bytes, low byte first");
+    }
+}
+
+/* ---- Hashes worked by hand ---- */
+
+/* Four words whose top two bytes are 1, 2, 134, 134. The differences are 1, 1 and 132 times 2^48, then 1.
+ *   fcm, t = 16:   hashes 0; 0 ^ 1 = 1; 64 ^ 2 = 66; 4224 ^ 134 = 4102
+ *   dfcm, t = 16:  2^48 shifted right by 40 is 256, 132 times that is 33792: hashes 0; 0 ^ 256 = 256;
+ *                  1024 ^ 256 = 1280; 5120 ^ 33792 = 36864
+ *   t = 8 keeps the low eight bits: fcm 0, 1, 66, 6; dfcm always 0 */
+static void worked_hashes(void)
+{
+    const uint64_t step = UINT64_C(1) << 48;
+    const uint64_t words[4] = { step, 2 * step, 134 * step, 134 * step + 1 };
+    size_t used = 0;
+    pack(words, 4, 16);
+    holds(fcm[0] == words[0] && fcm[1] == words[1] && fcm[66] == words[2] && fcm[4102] == words[3],
+          "fcm hashes, t = 16");
+    holds(dfcm[0] == step && dfcm[256] == step && dfcm[1280] == 132 * step && dfcm[36864] == 1,
+          "dfcm hashes, t = 16");
+    for (size_t i = 0; i < 65536; i++) {
+        used += (fcm[i] != 0) + (dfcm[i] != 0);
+    }
+    holds(used == 8, "nothing else in the tables");
+    pack(words, 4, 8);
+    holds(fcm[0] == words[0] && fcm[1] == words[1] && fcm[66] == words[2] && fcm[6] == words[3],
+          "fcm hashes, t = 8");
+    holds(dfcm[0] == 1, "dfcm hashes, t = 8");
+}
+
+/* ---- Files worked by hand ---- */
+
+static void worked_files(void)
+{
+    uint8_t empty[64], filled[64];
+    const uint64_t zero[] = { 0 };
+    size_t length = 0, offset = 1, block_length = 1;
+    size_t empty_length = from_hex("63 6F 69 6C 01 00 0A 00 07 00 00 00 00 00 00 00 "
+                                   "20 00 00 00 00 00 00 00 20 00 00 00 00 00 00 00", empty);
+    size_t filled_length = from_hex("01 00 00 00 09 00 00 00 77 03 00 00 00 00 00 00 00 09 00 00 00 "
+                                    "63 6F 69 6C 01 00 0A 00 07 00 00 00 00 00 00 00 "
+                                    "2C 00 00 00 01 00 00 00 35 00 00 00 00 00 00 00", filled);
+    holds(ref_create(file, sizeof file, 7, 10, &length) == 0, "creating");
+    holds(length == 32 && empty_length == 32 && memcmp(file, empty, 32) == 0, "the empty file");
+    holds(ref_append(file, sizeof file, length, 7, 3, zero, 1, fcm, 1024, dfcm, 1024,
+                     bench, sizeof bench, &length) == 0, "appending");
+    holds(length == 53 && filled_length == 53 && memcmp(file, filled, 53) == 0, "the file of 53 bytes");
+    holds(memcmp(bench, filled, 9) == 0, "the bench holds the block");
+    holds(ref_open(file, sizeof file, length, 7) == 0, "opening");
+    holds(ref_open(file, sizeof file, length, 8) == 8, "opening as another exam");
+    holds(ref_find(file, sizeof file, length, 7, 3, &offset, &block_length) == 0, "finding");
+    holds(offset == 0 && block_length == 9, "the block's place");
+    holds(ref_find(file, sizeof file, length, 7, 4, &offset, &block_length) == 10, "another slot");
+    holds(offset == 0 && block_length == 0, "refused: an empty part");
+}
+
+/* ---- Round trips and room ---- */
+
+/* The least room that the promise allows: over every way to cut the words into runs of one fixed
+ * difference, each run costs 8(t/2 rounded up + 2), or 8(t/6 rounded up + 1) where the words are equal. */
+static uint64_t promised_length(const uint64_t *words, size_t count, unsigned t)
+{
+    static uint64_t least[MOST + 1];
+    uint64_t of_a_ramp = 8 * ((t + 1) / 2 + 2);
+    uint64_t of_equal_words = 8 * ((t + 5) / 6 + 1);
+    least[0] = 0;
+    for (size_t end = 1; end <= count; end++) {
+        least[end] = UINT64_MAX;
+        for (size_t start = end; start-- > 0;) {
+            uint64_t difference = end - start > 1 ? words[end - 1] - words[end - 2] : 0;
+            if (end - start > 1 && words[start + 1] - words[start] != difference) {
+                break;
+            }
+            uint64_t with = least[start] + (difference == 0 ? of_equal_words : of_a_ramp);
+            least[end] = with < least[end] ? with : least[end];
+        }
+    }
+    uint64_t codes = 8 + (count + 1) / 2;
+    return codes + (least[count] < 8 * count ? least[count] : 8 * count);
+}
+
+static void there_and_back(kind_of_words kind, unsigned t, size_t count)
+{
+    static uint64_t words[MOST], back[MOST];
+    size_t unpacked = 0;
+    make_words(kind, words, count);
+    size_t length = pack(words, count, t);
+    holds(length <= promised_length(words, count, t), "the promised room");
+    holds(ref_check(block, length) == 0, "a packed block is well formed");
+    uint32_t answer = ref_unpack(block, length, fcm, (size_t)1 << t, dfcm, (size_t)1 << t,
+                                 back, count, &unpacked);
+    holds(answer == 0 && unpacked == count && memcmp(words, back, 8 * count) == 0, kind_names[kind]);
+}
+
+static void round_trips(void)
+{
+    for (unsigned t = 0; t <= 16; t++) {
+        for (unsigned kind = 0; kind < KINDS; kind++) {
+            for (size_t count = 0; count <= MOST; count += 1 + random_below(120)) {
+                there_and_back((kind_of_words)kind, t, count);
+            }
+        }
+    }
+}
+
+int main(void)
+{
+    seed_random(1);
+    worked_blocks();
+    worked_refusals();
+    table_of_codes();
+    worked_hashes();
+    worked_files();
+    round_trips();
+    printf("%u passed, %u failed\n", passed, failed);
+    return failed != 0;
+}

@@ -1,0 +1,375 @@
+# Wrong versions of reference.c, read by can_fail.sh: slip NAME RIGHT WRONG
+#
+# Each slip is one change: the text RIGHT, which must stand in reference.c exactly once, becomes WRONG.
+# shellcheck shell=bash disable=SC2016
+
+# ---- Packers that would be easy to write and useless
+slip "packer refuses everything" 'if (words_len > MOST_WORDS) {
+        return 2;
+    }
+    if (out_len' 'return 3;
+    if (out_len'
+slip "packer answers one fixed block" 'size_t length = write_block(block, words, words_len, &p);' \
+    'size_t length = write_block(block, words, 0, &p);'
+slip "packer writes nothing" 'memcpy(out, block, length);' ''
+slip "only the first word is predicted" 'int dfcm_is_chosen = leading' \
+    'if (i > 0) { fcm_residual = dfcm_residual = words[i]; } int dfcm_is_chosen = leading'
+slip "states a length it did not write" 'hand_over_tables(&p, fcm, dfcm);
+    return length;' 'hand_over_tables(&p, fcm, dfcm);
+    return length + 1;'
+
+# ---- Predictors
+slip "fcm hash shifted by 5" 'p->fcm_hash << 6' 'p->fcm_hash << 5'
+slip "fcm hash takes the word shifted by 47" 'v >> 48' 'v >> 47'
+slip "dfcm hash shifted by 3" 'p->dfcm_hash << 2' 'p->dfcm_hash << 3'
+slip "dfcm hash takes the difference shifted by 41" 'd >> 40' 'd >> 41'
+slip "dfcm hash takes the word" 'd >> 40' 'v >> 40'
+slip "fcm hash adds in place of xor" '(p->fcm_hash << 6) ^' '(p->fcm_hash << 6) +'
+slip "fcm hash forgets its past" '((p->fcm_hash << 6) ^ (v >> 48))' '(v >> 48)'
+slip "difference stored after the last word was replaced" 'uint64_t d = v - p->last;' \
+    'p->last = v; uint64_t d = v - p->last;'
+slip "dfcm stores the word" 'p->dfcm[p->dfcm_hash] = d;' 'p->dfcm[p->dfcm_hash] = v;'
+slip "dfcm prediction without the last word" 'p->dfcm[p->dfcm_hash] + p->last' 'p->dfcm[p->dfcm_hash]'
+slip "last word never replaced" 'p->last = v;' ''
+slip "fcm stored under the new hash" 'p->fcm[p->fcm_hash] = v;' \
+    'p->fcm[((p->fcm_hash << 6) ^ (v >> 48)) % p->entries] = v;'
+slip "last word starts at 1" 'p.last = 0;' 'p.last = 1;'
+slip "fcm hash starts elsewhere" 'p.fcm_hash = 0;' 'p.fcm_hash = entries - 1;'
+slip "a tie goes to dfcm" 'leading_zero_bytes(dfcm_residual) > ' 'leading_zero_bytes(dfcm_residual) >= '
+slip "bits compared in place of bytes" \
+    'leading_zero_bytes(dfcm_residual) > leading_zero_bytes(fcm_residual)' 'dfcm_residual < fcm_residual'
+slip "dfcm never chosen" 'int dfcm_is_chosen = leading' 'int dfcm_is_chosen = 0 && leading'
+
+# ---- Tables
+slip "fcm not cleared before packing" 'uint8_t *block = room_for' \
+    'memcpy(p.fcm, fcm, 8 * entries); uint8_t *block = room_for'
+slip "dfcm not cleared before packing" 'uint8_t *block = room_for' \
+    'memcpy(p.dfcm, dfcm, 8 * entries); uint8_t *block = room_for'
+slip "upper half not cleared before packing" 'uint8_t *block = room_for' \
+    'memcpy(p.fcm + entries / 2, fcm + entries / 2, 8 * (entries - entries / 2)); uint8_t *block = room_for'
+slip "fcm not cleared before unpacking" 'read_block(block, declared, words, &p);' \
+    'memcpy(p.fcm, fcm, 8 * fcm_len); read_block(block, declared, words, &p);'
+slip "last table word not cleared before unpacking" 'read_block(block, declared, words, &p);' \
+    'p.dfcm[fcm_len - 1] = dfcm[fcm_len - 1]; read_block(block, declared, words, &p);'
+slip "dfcm table not left as it ended" 'dfcm[i] = p->dfcm[i];' ''
+slip "fcm table left cleared" 'fcm[i] = p->fcm[i];' 'fcm[i] = 0;'
+slip "pack clears a table on a refusal" 'if (out_len < worst_length(words_len)) {' \
+    'if (out_len < worst_length(words_len)) { memset(fcm, 0, 8 * fcm_len);'
+slip "unpack clears a table on a refusal" 'if (words_len < declared) {' \
+    'if (words_len < declared) { memset(dfcm, 0, 8 * fcm_len);'
+slip "unpack clears a table on a bad block" \
+    'uint32_t refusal = refuse_block(block, block_len, &declared);' \
+    'uint32_t refusal = refuse_block(block, block_len, &declared); if (refusal == 6) { fcm[0] = 0; }'
+slip "tables may differ" 'if (fcm_len != dfcm_len) {' 'if (0) {'
+slip "table of one word refused" 'for (unsigned t = 0; t <= MOST_T; t++)' \
+    'for (unsigned t = 1; t <= MOST_T; t++)'
+slip "t = 16 refused" 'for (unsigned t = 0; t <= MOST_T; t++)' 'for (unsigned t = 0; t < MOST_T; t++)'
+slip "t = 17 accepted" 'for (unsigned t = 0; t <= MOST_T; t++)' 'for (unsigned t = 0; t <= MOST_T + 1; t++)'
+slip "table size cut to 32 bits" '*length = 0;
+    if (refuse_tables' '*length = 0; fcm_len = (uint32_t)fcm_len; dfcm_len = (uint32_t)dfcm_len;
+    if (refuse_tables'
+slip "table between two powers accepted" 'if (fcm_len == (size_t)1 << t) {' \
+    'if (fcm_len / 2 == (size_t)1 << t >> 1) {'
+
+# ---- Codes and residual bytes
+slip "four zero bytes as code 4" '{ 0, 1, 2, 3, 3, 4, 5, 6, 7 }' '{ 0, 1, 2, 3, 4, 4, 5, 6, 7 }'
+slip "code 4 stands for four bytes" '{ 8, 7, 6, 5, 3, 2, 1, 0 }' '{ 8, 7, 6, 5, 4, 2, 1, 0 }'
+slip "top bit names fcm" 'code >= DFCM_BIT ?' 'code < DFCM_BIT ?'
+slip "first code read from the low half" 'index % 2 == 0 ? pair / 16 : pair % 16' \
+    'index % 2 == 1 ? pair / 16 : pair % 16'
+slip "first code written to the low half" 'index % 2 == 0 ? 16 * code : code' \
+    'index % 2 == 1 ? 16 * code : code'
+slip "residual high byte first" 'write_field(block + at, bytes_written[low_bits], residual);' \
+    'for (unsigned k = 0; k < bytes_written[low_bits]; k++)
+        { block[at + k] = (uint8_t)(residual >> 8 * (bytes_written[low_bits] - 1 - k)); }'
+slip "filler 0" 'write_code(block, words_len, FILLER);' ''
+slip "filler 15" 'write_code(block, words_len, FILLER);' 'write_code(block, words_len, 15);'
+
+# ---- Block checks
+slip "filler not checked" 'declared % 2 == 1 && read_code(block, declared) != FILLER' '0'
+slip "filler 15 accepted" 'read_code(block, declared) != FILLER' 'read_code(block, declared) % 8 != FILLER'
+slip "filler half counted into the length" 'i < declared; i++' 'i < declared + declared % 2; i++'
+slip "filler checked before the length" 'if (read_field(block + 4, 4) != block_len) {' \
+    'if (declared % 2 == 1 && block_len >= 8 + code_bytes(declared)
+        && read_code(block, declared) != FILLER) { return 6; }
+    if (read_field(block + 4, 4) != block_len) {'
+slip "length checked before the count" 'if (declared > MOST_WORDS) {' \
+    'if (read_field(block + 4, 4) != block_len) { return 5; } if (declared > MOST_WORDS) {'
+slip "block of 8 bytes refused" 'if (block_len < BLOCK_HEADER) {' 'if (block_len <= BLOCK_HEADER) {'
+slip "block of 7 bytes looked at" 'if (block_len < BLOCK_HEADER) {' 'if (block_len < BLOCK_HEADER - 1) {'
+slip "65,536 declared words refused" 'if (declared > MOST_WORDS) {' 'if (declared >= MOST_WORDS) {'
+slip "65,537 declared words accepted" 'if (declared > MOST_WORDS) {' 'if (declared > MOST_WORDS + 1) {'
+slip "count read from two bytes" 'uint64_t declared = read_field(block, 4);' \
+    'uint64_t declared = read_field(block, 2);'
+slip "length field not compared with the slice" 'if (read_field(block + 4, 4) != block_len) {' 'if (0) {'
+slip "slice length cut to 32 bits" 'if (read_field(block + 4, 4) != block_len) {' \
+    'block_len = (uint32_t)block_len; if (read_field(block + 4, 4) != block_len) {'
+slip "bytes behind the residuals accepted" 'if (expected != block_len) {' 'if (expected > block_len) {'
+slip "missing residual bytes accepted" 'if (expected != block_len) {' 'if (expected < block_len) {'
+slip "codes beyond the slice read" 'if (expected > block_len) {' 'if (0) {'
+
+# ---- Rooms and numbers of the block calls
+slip "pack: 65,536 words refused" 'if (words_len > MOST_WORDS) {
+        return 2;
+    }
+    if (out_len' 'if (words_len >= MOST_WORDS) {
+        return 2;
+    }
+    if (out_len'
+slip "pack: 65,537 words accepted" 'if (words_len > MOST_WORDS) {
+        return 2;
+    }
+    if (out_len' 'if (words_len > MOST_WORDS + 1) {
+        return 2;
+    }
+    if (out_len'
+slip "pack: room before count" 'if (words_len > MOST_WORDS) {
+        return 2;
+    }
+    if (out_len' 'if (out_len < worst_length(words_len)) { return 3; }
+    if (words_len > MOST_WORDS) {
+        return 2;
+    }
+    if (out_len'
+slip "pack: one byte of room too few accepted" 'if (out_len < worst_length(words_len)) {' \
+    'if (out_len + 1 < worst_length(words_len)) {'
+slip "pack: exactly enough room refused" 'if (out_len < worst_length(words_len)) {' \
+    'if (out_len <= worst_length(words_len)) {'
+slip "worst length rounded down" 'return (count + 1) / 2;
+}
+
+static uint64_t worst_length(uint64_t count)
+{
+    return BLOCK_HEADER + code_bytes(count)' 'return (count + 1) / 2;
+}
+
+static uint64_t worst_length(uint64_t count)
+{
+    return BLOCK_HEADER + count / 2'
+slip "pack: output used as scratch beyond the block" 'memcpy(out, block, length);' \
+    'memcpy(out, block, worst_length(words_len));'
+slip "pack: a refusal leaves the length" '*length = 0;
+    if (refuse_tables' 'if (refuse_tables'
+slip "pack: words changed" 'memcpy(out, block, length);' \
+    'memcpy(out, block, length); if (words_len > 0) { ((uint64_t *)words)[0] ^= 1; }'
+slip "unpack: a refusal leaves the count" '*count = 0;
+    if (refuse_tables' 'if (refuse_tables'
+slip "unpack: block before tables" '*count = 0;
+    if (refuse_tables(fcm_len, dfcm_len)) {
+        return 1;
+    }
+    uint64_t declared = 0;
+    uint32_t refusal = refuse_block(block, block_len, &declared);
+    if (refusal) {
+        return refusal;
+    }' '*count = 0;
+    uint64_t declared = 0;
+    uint32_t refusal = refuse_block(block, block_len, &declared);
+    if (refusal) {
+        return refusal;
+    }
+    if (refuse_tables(fcm_len, dfcm_len)) {
+        return 1;
+    }'
+slip "unpack: exactly enough room refused" 'if (words_len < declared) {' 'if (words_len <= declared) {'
+slip "unpack: one word of room too few accepted" 'if (words_len < declared) {' \
+    'if (words_len + 1 < declared) {'
+slip "unpack: words beyond the count cleared" '*count = declared;
+    return 0;
+}
+
+/* ---- Exam' 'for (size_t i = declared; i < words_len; i++) { words[i] = 0; }
+    *count = declared;
+    return 0;
+}
+
+/* ---- Exam'
+slip "unpack: words written before a refusal" 'if (words_len < declared) {' \
+    'if (words_len < declared) { if (words_len > 0) { words[0] = 0; }'
+
+# ---- Creating
+slip "create: exam 0 accepted" 'if (exam == 0) {' 'if (0) {'
+slip "create: t before exam" 'if (exam == 0) {' 'if (t > MOST_T) { return 7; } if (exam == 0) {'
+slip "create: t = 17 accepted" 'if (t > MOST_T) {' 'if (t > MOST_T + 1) {'
+slip "create: t cut to 16 bits" 'if (t > MOST_T) {' 'if ((uint16_t)t > MOST_T) {'
+slip "create: t = 16 refused" 'if (t > MOST_T) {' 'if (t >= MOST_T) {'
+slip "create: 31 bytes accepted" 'if (file_len < TRAILER) {' 'if (file_len < TRAILER - 1) {'
+slip "create: 32 bytes refused" 'if (file_len < TRAILER) {' 'if (file_len <= TRAILER) {'
+slip "create: rest of the buffer cleared" 'write_trailer(file, t, exam, 0, TRAILER);' \
+    'memset(file, 0, file_len); write_trailer(file, t, exam, 0, TRAILER);'
+slip "create: a refusal leaves the length" '*length = 0;
+    if (exam == 0)' 'if (exam == 0)'
+slip "create: edition 2" 'write_field(at + 4, 2, 1);' 'write_field(at + 4, 2, 2);'
+slip "exam written with four bytes" 'write_field(at + 8, 8, exam);' 'write_field(at + 8, 8, (uint32_t)exam);'
+
+# ---- Opening
+slip "open: exam number forgotten" 'if (read_field(trailer + 8, 8) != exam) {' 'if (0) {'
+slip "open: exam compared by four bytes" 'if (read_field(trailer + 8, 8) != exam) {' \
+    'if (read_field(trailer + 8, 4) != (uint32_t)exam) {'
+slip "open: exam 0 of a file accepted" 'if (read_field(trailer + 8, 8) == 0) {' 'if (0) {'
+slip "open: 32 bytes refused" 'if (length < TRAILER) {' 'if (length <= TRAILER) {'
+slip "open: 31 bytes looked at" 'if (length < TRAILER) {' 'if (length < TRAILER - 1) {'
+slip "open: length beyond the buffer" 'if (length > file_len) {' 'if (length > file_len + 1) {'
+slip "open: length as large as the buffer refused" 'if (length > file_len) {' 'if (length >= file_len) {'
+slip "open: limit before the buffer" 'if (length < TRAILER) {
+        return 4;' 'if (length > MOST_FILE_BYTES) { return 7; }
+    if (length < TRAILER) {
+        return 4;'
+slip "open: file at the limit refused" 'if (length > MOST_FILE_BYTES) {' 'if (length >= MOST_FILE_BYTES) {'
+slip "open: file over the limit accepted" 'if (length > MOST_FILE_BYTES) {' \
+    'if (length > MOST_FILE_BYTES + 1) {'
+slip "open: length cut to 32 bits" 'if (length < TRAILER) {
+        return 4;' 'length = (uint32_t)length;
+    if (length < TRAILER) {
+        return 4;'
+slip "open: three bytes of the mark compared" 'memcmp(trailer, "coil", 4) == 0' \
+    'memcmp(trailer, "coil", 3) == 0'
+slip "open: mark not compared" 'memcmp(trailer, "coil", 4) == 0' '1'
+slip "open: edition not compared" '&& edition == 1' '&& edition >= 1'
+slip "open: t = 17 accepted" '&& t <= MOST_T' '&& t <= MOST_T + 1'
+slip "open: t = 16 refused" '&& t <= MOST_T' '&& t < MOST_T'
+slip "open: t read from one byte" 'uint64_t t = read_field(trailer + 6, 2);' \
+    'uint64_t t = read_field(trailer + 6, 1);'
+slip "open: 1,025 entries accepted" '&& entries <= MOST_ENTRIES' '&& entries <= MOST_ENTRIES + 1'
+slip "open: 1,024 entries refused" '&& entries <= MOST_ENTRIES' '&& entries < MOST_ENTRIES'
+slip "open: distance not compared with the entries" '&& distance == TRAILER + ENTRY * entries' \
+    '&& distance >= TRAILER + ENTRY * entries'
+slip "open: distance beyond the file" '&& distance <= length' ''
+slip "open: length field not compared" '&& read_field(trailer + 24, 8) == length' ''
+slip "open: length field read from four bytes" 'read_field(trailer + 24, 8) == length' \
+    'read_field(trailer + 24, 4) == length'
+slip "open: equal slots accepted" 'entry_slot(file, f, i) <= entry_slot' 'entry_slot(file, f, i) < entry_slot'
+slip "open: order of the first two slots not looked at" 'if (i > 0 && entry_slot' 'if (i > 1 && entry_slot'
+slip "open: offsets not compared" 'if (entry_offset(file, f, i) != next_offset) {' 'if (0) {'
+slip "open: first offset not compared" 'if (entry_offset(file, f, i) != next_offset) {' \
+    'if (i > 0 && entry_offset(file, f, i) != next_offset) {'
+slip "open: block of 7 bytes accepted" 'if (entry_length(file, f, i) < BLOCK_HEADER) {' \
+    'if (entry_length(file, f, i) < BLOCK_HEADER - 1) {'
+slip "open: block of 8 bytes refused" 'if (entry_length(file, f, i) < BLOCK_HEADER) {' \
+    'if (entry_length(file, f, i) <= BLOCK_HEADER) {'
+slip "open: ends of blocks wrap at 32 bits" \
+    'next_offset = entry_offset(file, f, i) + entry_length(file, f, i);' \
+    'next_offset = (uint32_t)(entry_offset(file, f, i) + entry_length(file, f, i));'
+slip "open: last end not compared" 'return next_offset == f->directory;' 'return next_offset <= f->directory;'
+slip "open: bytes in front of an empty directory accepted" 'return next_offset == f->directory;' \
+    'return f->entries == 0 || next_offset == f->directory;'
+slip "open: exam before trailer" 'if (!trailer_is_right(trailer, length)) {' \
+    'if (read_field(trailer + 8, 8) != exam) { return 8; } if (!trailer_is_right(trailer, length)) {'
+slip "open: directory before exam" 'if (read_field(trailer + 8, 8) != exam) {' \
+    'f->entries = read_field(trailer + 20, 4); f->directory = length - read_field(trailer + 16, 4);
+    if (!directory_is_right(file, f)) { return 9; } if (read_field(trailer + 8, 8) != exam) {'
+
+# ---- Finding and fetching
+slip "find: next slot taken for a missing one" 'if (entry_slot(file, f, i) == slot) {' \
+    'if (entry_slot(file, f, i) >= slot) {'
+slip "find: slots compared by two bytes" 'if (entry_slot(file, f, i) == slot) {' \
+    'if ((uint16_t)entry_slot(file, f, i) == (uint16_t)slot) {'
+slip "find: slot 0 refused" 'if (entry_slot(file, f, i) == slot) {' \
+    'if (slot != 0 && entry_slot(file, f, i) == slot) {'
+slip "find: last entry not looked at" 'for (uint64_t i = 0; i < f->entries; i++) {
+        if (entry_slot(file, f, i) == slot)' 'for (uint64_t i = 0; i + 1 < f->entries; i++) {
+        if (entry_slot(file, f, i) == slot)'
+slip "find: a refusal leaves the offset" '*offset = 0;
+' ''
+slip "find: a refusal leaves the block length" '*block_length = 0;
+' ''
+slip "find: length one less" '*block_length = entry_length(file, &f, index);' \
+    '*block_length = entry_length(file, &f, index) - 1;'
+slip "fetch: a refusal leaves the count" '*count = 0;
+    uint32_t refusal = find_slot' 'uint32_t refusal = find_slot'
+slip "fetch: tables of any size" 'if (refuse_file_tables(&f, fcm_len, dfcm_len)) {' \
+    'if (refuse_tables(fcm_len, dfcm_len)) {'
+slip "fetch: tables before slot" '*count = 0;
+    uint32_t refusal = find_slot' '*count = 0; if (refuse_tables(fcm_len, dfcm_len)) { return 1; }
+    uint32_t refusal = find_slot'
+slip "fetch: block before tables" 'if (refuse_file_tables(&f, fcm_len, dfcm_len)) {' \
+    'uint64_t declared; refusal = refuse_block(file + entry_offset(file, &f, index),
+        entry_length(file, &f, index), &declared); if (refusal) { return refusal; }
+    if (refuse_file_tables(&f, fcm_len, dfcm_len)) {'
+slip "fetch: first block for every slot" \
+    'return ref_unpack(file + entry_offset(file, &f, index), entry_length(file, &f, index),' \
+    'return ref_unpack(file, entry_length(file, &f, 0),'
+
+# ---- Appending
+slip "append: slot before full" 'if (f->entries >= MOST_ENTRIES) {' \
+    'if (f->entries > 0 && slot <= entry_slot(file, f, f->entries - 1)) { return 11; }
+    if (f->entries >= MOST_ENTRIES) {'
+slip "append: 1,025 entries" 'if (f->entries >= MOST_ENTRIES) {' 'if (f->entries > MOST_ENTRIES) {'
+slip "append: 1,023 entries are full" 'if (f->entries >= MOST_ENTRIES) {' \
+    'if (f->entries + 1 >= MOST_ENTRIES) {'
+slip "append: last slot again" 'slot <= entry_slot(file, f, f->entries - 1)' \
+    'slot < entry_slot(file, f, f->entries - 1)'
+slip "append: compared with the first slot" 'slot <= entry_slot(file, f, f->entries - 1)' \
+    'slot <= entry_slot(file, f, 0)'
+slip "append: slot 0 refused in an empty file" 'if (f->entries > 0 && slot <= entry_slot' \
+    'if (slot == 0) { return 11; } if (f->entries > 0 && slot <= entry_slot'
+slip "append: tables before slot" 'if (f->entries > 0 && slot <= entry_slot' \
+    'if (refuse_file_tables(f, fcm_len, dfcm_len)) { return 1; } if (f->entries > 0 && slot <= entry_slot'
+slip "append: tables of any size" 'if (refuse_file_tables(f, fcm_len, dfcm_len)) {' \
+    'if (refuse_tables(fcm_len, dfcm_len)) {'
+slip "append: room before count" 'if (words_len > MOST_WORDS) {
+        return 2;
+    }
+    uint64_t limit' 'if (bench_len < worst_length(words_len)) { return 3; }
+    if (words_len > MOST_WORDS) {
+        return 2;
+    }
+    uint64_t limit'
+slip "append: count before tables" 'if (refuse_file_tables(f, fcm_len, dfcm_len)) {' \
+    'if (words_len > MOST_WORDS) { return 2; } if (refuse_file_tables(f, fcm_len, dfcm_len)) {'
+slip "append: room of the entry forgotten" 'if (length + ENTRY + worst_length(words_len) > limit) {' \
+    'if (length + worst_length(words_len) > limit) {'
+slip "append: exactly enough room refused" 'if (length + ENTRY + worst_length(words_len) > limit) {' \
+    'if (length + ENTRY + worst_length(words_len) >= limit) {'
+slip "append: one byte of room too few accepted" 'if (length + ENTRY + worst_length(words_len) > limit) {' \
+    'if (length + ENTRY + worst_length(words_len) > limit + 1) {'
+slip "append: file limit forgotten" \
+    'uint64_t limit = file_len < MOST_FILE_BYTES ? file_len : MOST_FILE_BYTES;' \
+    'uint64_t limit = file_len;'
+slip "append: bench one byte short accepted" 'if (bench_len < worst_length(words_len)) {' \
+    'if (bench_len + 1 < worst_length(words_len)) {'
+slip "append: exactly enough bench refused" 'if (bench_len < worst_length(words_len)) {' \
+    'if (bench_len <= worst_length(words_len)) {'
+slip "append: a refusal leaves the length" '*new_length = 0;' ''
+slip "append: a refusal clears a table" 'refusal = refuse_append(file' \
+    'fcm[0] = fcm_len > 0 ? 0 : fcm[0]; refusal = refuse_append(file'
+slip "append: packs into the bench before a refusal" 'refusal = refuse_append(file' \
+    'if (bench_len > 0) { bench[0] = 0; } refusal = refuse_append(file'
+slip "append: bench not filled" \
+    'size_t block_length = pack_now(words, words_len, fcm, dfcm, fcm_len, bench);' \
+    'uint8_t *own = room_for(worst_length(words_len));
+    size_t block_length = pack_now(words, words_len, fcm, dfcm, fcm_len, own);
+    *new_length = put_block_in(file, &f, exam, slot, own, block_length); return 0;'
+slip "append: offset of the old end" 'write_field(file + at + 4, 4, f->directory);' \
+    'write_field(file + at + 4, 4, at);'
+slip "append: entry length with its entry" 'write_field(file + at + 8, 4, block_length);' \
+    'write_field(file + at + 8, 4, block_length + ENTRY);'
+slip "append: entries not counted" 'exam, f->entries + 1, at + TRAILER' 'exam, f->entries, at + TRAILER'
+slip "append: t lost" 'write_trailer(file + at, f->t, exam' 'write_trailer(file + at, 10, exam'
+slip "append: old directory lost" 'memcpy(file + at, old_directory, old_directory_bytes);' ''
+slip "append: directory moved forwards over itself" \
+    'memcpy(old_directory, file + f->directory, old_directory_bytes);' \
+    'for (size_t k = 0; k < old_directory_bytes; k++)
+        { file[f->directory + block_length + k] = file[f->directory + k]; }
+    memcpy(old_directory, file + f->directory + block_length, old_directory_bytes);'
+slip "append: block written before the directory was moved" \
+    'memcpy(old_directory, file + f->directory, old_directory_bytes);' \
+    'memcpy(file + f->directory, block, block_length);
+    memcpy(old_directory, file + f->directory, old_directory_bytes);'
+slip "append: 65,536 words refused" 'if (words_len > MOST_WORDS) {
+        return 2;
+    }
+    uint64_t limit' 'if (words_len >= MOST_WORDS) {
+        return 2;
+    }
+    uint64_t limit'
+slip "append: 65,537 words accepted" 'if (words_len > MOST_WORDS) {
+        return 2;
+    }
+    uint64_t limit' 'if (words_len > MOST_WORDS + 1) {
+        return 2;
+    }
+    uint64_t limit'
+slip "append: rest of the buffer changed" 'free(old_directory);' \
+    'free(old_directory); file[at + TRAILER] = 0;'
+slip "append: length without the trailer" 'return at + TRAILER;' 'return at;'
