@@ -1,16 +1,16 @@
 -- The code of a word: the table, the choice, what is written. Nothing else opens these definitions.
-use mathlib.Core.Path.{_≡_, refl, ap}
+use mathlib.Core.Path.{_≡_, refl, sym, ap, _∙_}
 use mathlib.Core.Bool.{Bool, true, false, cond}
 use mathlib.Core.List.{[], _∷_}
-use Prim.Native.Nat.{ℕ, zero, suc, _+_, _-_, _%_, _^_, _≤_, _<_}
+use Prim.Native.Nat.{ℕ, zero, suc, min, _+_, _-_, _%_, _^_, _≤_, _<_}
 use native.Mathlib.Omega.{arith}
 use native.Mathlib.Nat.{lt-of-lt-of-le, zero-add}
 use lib.Dec.{ltb}
 use lib.ListN.{getD}
-use borrow.Author.Tests.{ltb-true, ltb-false}
+use borrow.Author.Tests.{ltb-true, ltb-false, lt-ltb, le-ltb}
 use Rattle.words.specs.Words.{zeroBytes}
 use Rattle.words.proofs.Tests.{either}
-use Rattle.words.proofs.Zeros.{zeros-at-most, zeros-within, pow-256-le}
+use Rattle.words.proofs.Zeros.{zeros-at-most, zeros-within, zeros-above, zeros-fall, pow-256-le}
 use Rattle.blocks.specs.Predictors.{Memory}
 use Rattle.blocks.specs.Codes.{dfcmChosen, lowThree, written, codedBy, chosen, codedWord, fcmResidual, dfcmResidual}
 use Rattle.blocks.specs.declared.Coded.{Coded}
@@ -93,10 +93,6 @@ pub coded-of : (b : Bool) (r z l t : ℕ) → t ≡ cond b 8 0 → z ≡ zeroByt
 unfolding codedBy
 coded-of b r z l t e p q = cc
 
-pub chosen-of : (f d zf zd : ℕ) → zf ≡ zeroBytes f → zd ≡ zeroBytes d → ltb zf zd ≡ dfcmChosen f d
-unfolding dfcmChosen
-chosen-of f d zf zd p q = cc
-
 -- what is taken has no fewer leading zero bytes than what is left: all that the cost of a word rests on
 pub dfcm-taken : (f d : ℕ) → dfcmChosen f d ≡ true → zeroBytes f ≤ zeroBytes d
 unfolding dfcmChosen
@@ -113,6 +109,48 @@ chosen-dfcm f d r e q = rw e q
 pub chosen-fcm : (f d : ℕ) (r : Coded) → dfcmChosen f d ≡ false → r ≡ codedBy false f → r ≡ chosen f d
 unfolding chosen
 chosen-fcm f d r e q = rw e q
+
+-- the choice seen from the lesser residual: it has the more leading zero bytes, or as many
+module _ (f d z l top res : ℕ) (b : Bool) (p : z ≡ zeroBytes (min f d)) (q : b ≡ ltb (zeroBytes f) z) (e : top ≡ cond b 8 0) (k : l ≡ lowThree z) (r : res ≡ cond b d f)
+    (hf : f < 2 ^ 64) (hd : d < 2 ^ 64) where
+  by-dfcm : b ≡ true → record { code = top + l; residual = res } ≡ chosen f d
+  unfolding dfcmChosen
+  by-dfcm t =
+      let h : zeroBytes f < z = ltb-true (zeroBytes f) z (sym q ∙ t) in
+      let m : min f d ≡ d =
+      either (ltb f d)
+      (λ x.
+      let y : min f d ≡ f = omega (arith, ltb-true f d x) in
+      absurd (omega (arith, h, p ∙ ap zeroBytes y)))
+      (λ x. omega (arith, ltb-false f d x)) in
+      let z-is : z ≡ zeroBytes d = p ∙ ap zeroBytes m in
+      chosen-dfcm f d _ (lt-ltb (zeroBytes f) (zeroBytes d) (omega (arith, h, z-is))) (ap (λ (x : ℕ). record { code = top + l; residual = x }) (r ∙ rw t) ∙ coded-of true d z l top (e ∙ rw t) z-is k)
+
+  by-fcm : b ≡ false → record { code = top + l; residual = res } ≡ chosen f d
+  unfolding dfcmChosen
+  by-fcm t =
+      let h : z ≤ zeroBytes f = ltb-false (zeroBytes f) z (sym q ∙ t) in
+      let z-is : z ≡ zeroBytes f = omega (arith, h, p, zeros-fall (min f d) f (omega arith) hf) in
+      chosen-fcm f d _ (le-ltb (zeroBytes f) (zeroBytes d) (omega (arith, z-is, p, zeros-fall (min f d) d (omega arith) hd)))
+      (ap (λ (x : ℕ). record { code = top + l; residual = x }) (r ∙ rw t) ∙ coded-of false f z l top (e ∙ rw t) z-is k)
+
+  pub chosen-of-lesser : record { code = top + l; residual = res } ≡ chosen f d
+  chosen-of-lesser = either b by-dfcm by-fcm
+
+-- where neither top byte is zero, fcm is chosen and everything is written
+pub chosen-whole : (f d : ℕ) → 72057594037927936 ≤ min f d → f < 2 ^ 64 → d < 2 ^ 64 → record { code = 0; residual = f } ≡ chosen f d
+unfolding dfcmChosen codedBy lowThree
+chosen-whole f d h hf hd =
+    let zf : 0 ≡ zeroBytes f = zeros-above 7 f (omega arith) (omega arith) hf in
+    let zd : 0 ≡ zeroBytes d = zeros-above 7 d (omega arith) (omega arith) hd in
+    chosen-fcm f d (record { code = 0; residual = f }) (le-ltb (zeroBytes f) (zeroBytes d) (omega (arith, zf, zd))) (rw (← zf))
+
+pub zeros-of-lesser : (f d : ℕ) → 0 < f → 0 < d → f < 2 ^ 64 → d < 2 ^ 64 → zeroBytes (min f d) ≤ 7
+zeros-of-lesser f d pf pd hf hd =
+    either (ltb (zeroBytes (min f d)) 8) (λ e. omega (arith, ltb-true (zeroBytes (min f d)) 8 e))
+    (λ e.
+    let z : 8 - zeroBytes (min f d) ≡ 0 = omega (arith, ltb-false (zeroBytes (min f d)) 8 e) in
+    absurd (omega (arith, rw z at (zeros-within (min f d) (omega arith)))))
 
 pub coded-small : (m : Memory) (v : ℕ) → codedWord m v .code ≤ 15
 unfolding codedWord chosen

@@ -5,17 +5,21 @@ use mathlib.Core.Bool.{cond, true}
 use Prim.Native.Nat.{ℕ, zero, suc, min, _+_, _-_, _*_, _/_, _%_, _≤_, _<_}
 use native.Mathlib.Omega.{arith}
 use native.Mathlib.Numerals.{add-one}
-use lib.Dec.{eqb}
+use lib.Bits.{bitXor, xor-zero-l}
+use lib.Dec.{ltb, eqb}
 use lib.ListN.{length, getD, take, drop, length-take, length-drop, drop-of-length-le}
 use lib.Seq.{drop-cons, getD-drop, getD-take}
-use borrow.Author.Tests.{eq-eqb, ne-eqb}
+use borrow.Author.Tests.{ltb-true, ltb-false, eq-eqb, ne-eqb}
+use Rattle.words.specs.Words.{xor}
+use Rattle.words.specs.Bytes.{field}
+use Rattle.words.proofs.Tests.{either}
 use Rattle.blocks.specs.Predictors.{Memory, learn, after}
 use Rattle.blocks.specs.Codes.{written, decodedWord, decodedWords}
 use Rattle.blocks.specs.Block.{count, halves, countedCodes, lastHalf, residualLength, withResiduals}
 use Rattle.blocks.specs.Numbers.{fillerStands}
 use Rattle.blocks.specs.Inside.{Counted}
 use Rattle.blocks.specs.declared.Coded.{Coded}
-use Rattle.blocks.proofs.Codes.{written-small}
+use Rattle.blocks.proofs.Codes.{written-below, written-above, written-small}
 
 -- ---- halves
 
@@ -37,6 +41,17 @@ half-even b i h = sym (half-at (drop 8 b) i ∙ rw (eq-eqb (i % 2) 0 h, getD-dro
 
 pub half-odd : (b : List ℕ) (i : ℕ) → (i % 2 ≡ 0 → ⊥) → getD b (8 + i / 2) 0 % 16 ≡ getD (halves (drop 8 b)) i 0
 half-odd b i h = sym (half-at (drop 8 b) i ∙ rw (ne-eqb (i % 2) 0 h, getD-drop 8 b (i / 2) 0))
+
+-- the two halves of the j-th code byte
+pub half-high : (b : List ℕ) (j byte : ℕ) → byte ≡ getD b (8 + j) 0 → byte / 16 ≡ getD (halves (drop 8 b)) (2 * j) 0
+half-high b j byte e =
+    let i : 2 * j / 2 ≡ j = omega arith in
+    rw e (rw i at (half-even b (2 * j) (omega arith)))
+
+pub half-low : (b : List ℕ) (j byte : ℕ) → byte ≡ getD b (8 + j) 0 → byte % 16 ≡ getD (halves (drop 8 b)) (2 * j + 1) 0
+half-low b j byte e =
+    let i : (2 * j + 1) / 2 ≡ j = omega arith in
+    rw e (rw i at (half-odd b (2 * j + 1) (λ z. omega arith)))
 
 length-halves : (bs : List ℕ) → length (halves bs) ≡ 2 * length bs
 length-halves [] = refl
@@ -76,7 +91,20 @@ pub length-decoded : (t : ℕ) (m : Memory) (cs : List Coded) → length (decode
 length-decoded t m [] = refl
 length-decoded t m (c ∷ cs) = ap suc (length-decoded t (learn t m (decodedWord m c)) cs)
 
--- ---- their residual bytes, added up one code a turn
+-- ---- their residual bytes, added up one code byte a turn
+
+-- the table without a branch
+written-is : (c : ℕ) → written c + c % 8 + c % 8 / 4 ≡ 8
+written-is c =
+    either (ltb (c % 8) 4) (λ e. let h = ltb-true (c % 8) 4 e in omega (arith, written-below c h)) (λ e. let h = ltb-false (c % 8) 4 e in omega (arith, written-above c h))
+
+pub both-written : (byte : ℕ) → 16 - byte / 16 % 8 - byte / 16 % 8 / 4 - byte % 8 - byte % 8 / 4 ≡ written (byte / 16) + written (byte % 16)
+both-written byte =
+    let e : byte % 16 % 8 ≡ byte % 8 = omega arith in
+    left (byte / 16 % 8) (byte % 8) _ _ (written-is (byte / 16)) (rw e at (written-is (byte % 16)))
+  where
+    left : (h l wh wl : ℕ) → wh + h + h / 4 ≡ 8 → wl + l + l / 4 ≡ 8 → 16 - h - h / 4 - l - l / 4 ≡ wh + wl
+    left h l wh wl p q = omega arith
 
 pub record Adding (b : List ℕ) (n sum i : ℕ) : Type 0 where
   pub upto : i ≤ n
@@ -86,16 +114,42 @@ pub record Adding (b : List ℕ) (n sum i : ℕ) : Type 0 where
 pub adding-starts : (b : List ℕ) (n : ℕ) → Adding b n 0 0
 adding-starts b n = record { upto = omega arith; small = omega arith; whole = omega arith }
 
-pub adding-on : (b : List ℕ) (n sum i c k : ℕ) → Counted b n → i < n → Adding b n sum i → c ≡ getD (halves (drop 8 b)) i 0 → k ≡ written c → Adding b n (sum + k) (i + 1)
-adding-on b n sum i c k u h g e f =
+adding-on : (b : List ℕ) (n sum i c : ℕ) → Counted b n → i < n → Adding b n sum i → c ≡ getD (halves (drop 8 b)) i 0 → Adding b n (sum + written c) (i + 1)
+adding-on b n sum i c u h g e =
     record {
       upto = omega arith;
       small = omega (arith, g .small, written-small c);
-      whole = rw (f, e) (omega (arith, rw (counted-next b n i u h) at (g .whole)));
+      whole = rw e (omega (arith, rw (counted-next b n i u h) at (g .whole)));
     }
+
+pub adding-pair : (b : List ℕ) (n sum j byte k : ℕ) → Counted b n → j < n / 2 → Adding b n sum (2 * j) → byte ≡ getD b (8 + j) 0 → k ≡ written (byte / 16) + written (byte % 16)
+    → Adding b n (sum + k) (2 * (j + 1))
+adding-pair b n sum j byte k u h g e f =
+    let high = adding-on b n sum (2 * j) (byte / 16) u (omega arith) g (half-high b j byte e) in
+    let low = adding-on b n _ (2 * j + 1) (byte % 16) u (omega arith) high (half-low b j byte e) in
+    let i : 2 * (j + 1) ≡ 2 * j + 1 + 1 = omega arith in
+    let s : sum + k ≡ sum + written (byte / 16) + written (byte % 16) = omega (arith, f) in
+    rw (i, s) low
 
 pub adding-ends : (b : List ℕ) (n sum i : ℕ) → Counted b n → n ≤ i → Adding b n sum i → sum ≡ residualLength (countedCodes b)
 adding-ends b n sum i u h g = omega (arith, rw (counted-none b n i u h) at (g .whole))
+
+-- the last code, where the count is odd
+pub adding-last : (b : List ℕ) (n sum j c k : ℕ) → Counted b n → n / 2 ≤ j → n % 2 ≡ 1 → Adding b n sum (2 * j) → c ≡ getD (halves (drop 8 b)) (n - 1) 0 → k ≡ written c
+    → sum + k ≡ residualLength (countedCodes b)
+adding-last b n sum j c k u h o g e f =
+    let i : n - 1 ≡ 2 * j = omega (arith, g .upto) in
+    rw f (adding-ends b n _ (2 * j + 1) u (omega arith) (adding-on b n sum (2 * j) c u (omega arith) g (rw i at e)))
+
+-- ---- a word of a prediction and a residual
+
+pub predicted-whole : (b : List ℕ) (at code k p : ℕ) → k ≡ written code → k ≡ 0 → p ≡ xor (field (written code) at b) p
+unfolding xor
+predicted-whole b at code k p e z = rw (← e, z) (sym (xor-zero-l p))
+
+pub corrected-by : (b : List ℕ) (at code k x p : ℕ) → k ≡ written code → x ≡ field k at b → bitXor x p ≡ xor (field (written code) at b) p
+unfolding xor
+corrected-by b at code k x p e f = rw (f, e)
 
 -- ---- the filler
 

@@ -6,15 +6,15 @@ use native.Mathlib.Omega.{arith}
 use native.Mathlib.Numerals.{add-one}
 use lib.ListN.{length, getD, set, drop, replicate, length-set}
 use lib.Seq.{sets, drop-drop}
-use Rattle.words.specs.Bytes.{field}
 use Rattle.blocks.specs.Predictors.{Memory, cleared, learn, after}
 use Rattle.blocks.specs.Codes.{written, decodedWord, decodedWords}
 use Rattle.blocks.specs.Block.{count, halves, countedCodes, residualLength, withResiduals, residualsAt, wordsIn}
 use Rattle.blocks.specs.Numbers.{tOf}
-use Rattle.blocks.specs.Inside.{memory, Ready, Decodes, Counted, Getting, Gets, Unpackable, UnpacksAll}
+use Rattle.blocks.specs.Inside.{memory, Ready, codedAt, Decodable, Decodes, GetsWord, Counted, Getting, Gets, Unpackable, UnpacksAll}
 use Rattle.blocks.specs.declared.Coded.{Coded}
 use Rattle.blocks.specs.declared.predict.Carry.{Carry}
 use Rattle.blocks.specs.declared.reading.Back.{Back}
+use Rattle.blocks.specs.declared.reading.Place.{Place}
 use Rattle.blocks.proofs.Checks.{sets-over}
 use Rattle.blocks.proofs.Learn.{start, cleared-is, cleared-of, ready-start, ready-learn}
 use Rattle.blocks.proofs.Get.{counted-next, counted-none, length-counted, length-with, length-decoded}
@@ -31,6 +31,7 @@ pub record Going (b : List ℕ) (n : ℕ) (f₀ d₀ words₀ f d words : List �
   pub dfcmLong : length d ≡ length d₀
   pub wordsLong : length words ≡ length words₀
   pub ready : Ready f d c
+  pub past : 8 ≤ at
   pub bytes : at + residualLength (drop i (countedCodes b)) ≡ length b
   pub state :
       after (tOf (length f₀)) (memory f d c) (decodedWords (tOf (length f₀)) (memory f d c) (rest b i at))
@@ -49,36 +50,47 @@ going-starts b n f d words p =
       dfcmLong = refl;
       wordsLong = refl;
       ready = ready-start f d (p .cleared);
+      past = omega arith;
       bytes = rw (p .count) (sym (w .adds));
       state = rw (p .count, e);
       all = rw (p .count, e);
     }
 
+pub gets-word : (t : ℕ) (m : Memory) (b : List ℕ) (at code k : ℕ) (words : List ℕ) (i : ℕ) (f d : List ℕ) (r : Back)
+    → Decodes t m (codedAt b at code) f d r → k ≡ written code → GetsWord t m b at code words i f d (set words i (r .word)) (record { at = at + k; carry = r .carry })
+gets-word t m b at code k words i f d r s e = record { word = rw (s .word); learnt = s .learnt; next = rw e }
+
+learnt-long : (t : ℕ) (f d f' d' : List ℕ) (c c' : Carry) (v : ℕ) → memory f' d' c' ≡ learn t (memory f d c) v → (length f' ≡ length f) × (length d' ≡ length d)
+unfolding learn
+learnt-long t f d f' d' c c' v e = (ap (λ (m : Memory). length (m .fcm)) e ∙ length-set f _ _, ap (λ (m : Memory). length (m .dfcm)) e ∙ length-set d _ _)
+
 module _ (b : List ℕ) (n : ℕ) (f₀ d₀ words₀ f d words : List ℕ) (at : ℕ) (c : Carry) (i : ℕ) (g : Going b n f₀ d₀ words₀ f d words at c i)
     (p : Getting b n f₀ d₀ words₀) where
-  -- the residual bytes of the next code are there
-  pub going-room : (code k : ℕ) → i < n → code ≡ getD (halves (drop 8 b)) i 0 → k ≡ written code → at + k ≤ length b
-  going-room code k h e q =
-      omega (arith, rw (counted-next b n i (counted b n (p .whole) (p .count)) h) at (g .bytes), ap written e)
+  -- the next word can be read
+  pub going-next : (code : ℕ) → i < n → code ≡ getD (halves (drop 8 b)) i 0 → (Decodable b at code f d c) × (i < length words)
+  going-next code h e =
+      let l = rw (counted-next b n i (counted b n (p .whole) (p .count)) h) at (g .bytes) in
+      (record { ready = g .ready; past = g .past; within = omega (arith, l, ap written e) }, omega (arith, p .room, g .wordsLong))
 
-  pub going-on : (f' d' : List ℕ) (r : Back) (code k x : ℕ) → i < n
-      → code ≡ getD (halves (drop 8 b)) i 0 → k ≡ written code → x ≡ field k at b
-      → Decodes (tOf (length f)) (memory f d c) (record { code = code; residual = x }) f' d' r → length f' ≡ length f → length d' ≡ length d
-      → Going b n f₀ d₀ words₀ f' d' (set words i (r .word)) (at + k) (r .carry) (i + 1)
-  going-on f' d' r code k x h e q y s lf ld =
+  pub going-on : (f' d' words' : List ℕ) (r : Place) (code : ℕ) → i < n → code ≡ getD (halves (drop 8 b)) i 0
+      → GetsWord (tOf (length f)) (memory f d c) b at code words i f' d' words' r
+      → Going b n f₀ d₀ words₀ f' d' words' (r .at) (r .carry) (i + 1)
+  going-on f' d' words' r code h e s =
       let t = tOf (length f₀) in
       let m₀ = memory f d c in
       let dc : drop i (countedCodes b) ≡ code ∷ drop (i + 1) (countedCodes b) = counted-next b n i (counted b n (p .whole) (p .count)) h ∙ rw e in
-      let w : Coded = record { code = code; residual = x } in
-      let z : rest b i at ≡ w ∷ rest b (i + 1) (at + k) = rw (dc, y, q, ← (drop-drop (written code) at b)) in
+      let w : Coded = codedAt b at code in
+      let z : rest b i at ≡ w ∷ rest b (i + 1) (r .at) = rw (dc, s .next, ← (drop-drop (written code) at b)) in
       let m : memory f' d' (r .carry) ≡ learn t m₀ (decodedWord m₀ w) = s .learnt ∙ ap (λ (l : ℕ). learn (tOf l) m₀ (decodedWord m₀ w)) (g .fcmLong) in
+      let l = learnt-long (tOf (length f)) f d f' d' c (r .carry) (decodedWord m₀ w) (s .learnt) in
       record {
         upto = omega arith;
-        fcmLong = lf ∙ g .fcmLong;
-        dfcmLong = ld ∙ g .dfcmLong;
-        wordsLong = length-set words i _ ∙ g .wordsLong;
+        fcmLong = l .0 ∙ g .fcmLong;
+        dfcmLong = l .1 ∙ g .dfcmLong;
+        wordsLong = ap length (s .word) ∙ length-set words i _ ∙ g .wordsLong;
         ready = ready-learn f d f' d' c (r .carry) (decodedWord m₀ w) (g .ready) (s .learnt);
-        bytes = omega (arith, rw dc at (g .bytes));
+        past = omega (arith, g .past, s .next);
+        bytes = omega (arith, s .next, rw dc at (g .bytes));
         state = rw m (rw z at (g .state));
         all = rw (m, s .word, add-one i) (rw (z, add-one i) at (g .all));
       }

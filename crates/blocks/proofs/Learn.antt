@@ -1,5 +1,5 @@
 -- What the code of the predictors computes is what the definitions say.
-use mathlib.Core.Path.{_≡_, sym, ap, _∙_, subst}
+use mathlib.Core.Path.{_≡_, refl, sym, ap, _∙_, subst}
 use mathlib.Core.List.{List}
 use Prim.Native.Nat.{ℕ, _+_, _-_, _*_, _%_, _^_, _≤_, _<_}
 use native.Mathlib.Omega.{arith}
@@ -12,7 +12,7 @@ use Rattle.words.specs.Words.{add64, sub64, shiftedLeft, lowBits, xor}
 use Rattle.blocks.specs.Predictors.{Memory, cleared, fcmPrediction, dfcmPrediction, difference, nextFcmHash, nextDfcmHash, learn}
 use Rattle.blocks.specs.Codes.{fcmResidual, dfcmResidual, chosen, codedWord, namedPrediction, decodedWord}
 use Rattle.blocks.specs.Numbers.{tOf}
-use Rattle.blocks.specs.Inside.{memory, Sized, Ready, Masked, Codes, Decodes, Cleared}
+use Rattle.blocks.specs.Inside.{memory, Sized, Ready, Masked, Decodes, Cleared}
 use Rattle.blocks.specs.declared.Coded.{Coded}
 use Rattle.blocks.specs.declared.predict.Carry.{Carry}
 use Rattle.blocks.proofs.Tables.{sized-some}
@@ -43,11 +43,11 @@ pub learnt-of : (f d : List ℕ) (c : Carry) (v mask s hf hd : ℕ)
 unfolding learn difference
 learnt-of f d c v mask s hf hd e p q r = cc
 
-pub coded-word : (t : ℕ) (f d f' d' : List ℕ) (c c' : Carry) (v xf p xd : ℕ) (w : Coded)
-    → xf ≡ xor v (getD f (c .fcm) 0) → p ≡ add64 (getD d (c .dfcm) 0) (c .last) → xd ≡ xor v p → w ≡ chosen xf xd → memory f' d' c' ≡ learn t (memory f d c) v
-    → Codes t (memory f d c) v f' d' (record { carry = c'; coded = w })
+-- the word's residuals are those of the predictions that the tables gave
+pub coded-word : (f d : List ℕ) (c : Carry) (v xf p xd : ℕ) → xf ≡ xor v (getD f (c .fcm) 0) → p ≡ add64 (getD d (c .dfcm) 0) (c .last) → xd ≡ xor v p
+    → chosen xf xd ≡ codedWord (memory f d c) v
 unfolding codedWord fcmResidual dfcmResidual fcmPrediction dfcmPrediction
-coded-word t f d f' d' c c' v xf p xd w e1 e2 e3 e4 e5 = record { coded = cc; learnt = e5 }
+coded-word f d c v xf p xd e1 e2 e3 = cc
 
 pub named-fcm : (m : Memory) (c p : ℕ) → c < 8 → p ≡ getD (m .fcm) (m .fcmHash) 0 → p ≡ namedPrediction m c
 unfolding namedPrediction fcmPrediction
@@ -76,6 +76,10 @@ pub held-cleared : (t : ℕ) → Held t (cleared t)
 unfolding cleared
 held-cleared t = record { fcm = length-replicate _ _; dfcm = length-replicate _ _; fcmHash = pow-pos t; dfcmHash = pow-pos t }
 
+pub learn-long : (t : ℕ) (m : Memory) (v : ℕ) → (length (learn t m v .fcm) ≡ length (m .fcm)) × (length (learn t m v .dfcm) ≡ length (m .dfcm))
+unfolding learn
+learn-long t m v = (length-set (m .fcm) (m .fcmHash) v, length-set (m .dfcm) (m .dfcmHash) (difference m v))
+
 pub held-learn : (t : ℕ) (m : Memory) (v : ℕ) → Held t m → Held t (learn t m v)
 unfolding learn nextFcmHash nextDfcmHash lowBits
 held-learn t m v h = record { fcm = simp length-set (h .fcm); dfcm = simp length-set (h .dfcm); fcmHash = mod-lt _ (pow-pos t); dfcmHash = mod-lt _ (pow-pos t) }
@@ -90,6 +94,14 @@ ready-learn f d f' d' c c' v r e =
     let lf : length f' ≡ length f = h .fcm ∙ sym p in
     let ld : length d' ≡ length d = h .dfcm ∙ sym p ∙ sym (s .same) in
     record { sized = rw (lf, ld) s; fcm = omega (arith, h .fcm, h .fcmHash); dfcm = omega (arith, h .fcm, h .dfcmHash) }
+
+-- the same after two words
+pub two-ready : (f d f' d' : List ℕ) (c c' : Carry) (v w : ℕ) → Ready f d c → memory f' d' c' ≡ learn (tOf (length f)) (learn (tOf (length f)) (memory f d c) v) w → Ready f' d' c'
+two-ready f d f' d' c c' v w r e =
+    let m = learn (tOf (length f)) (memory f d c) v in
+    let between : Carry = record { fcm = m .fcmHash; dfcm = m .dfcmHash; last = m .last } in
+    let l : length (m .fcm) ≡ length f = learn-long (tOf (length f)) (memory f d c) v .0 in
+    ready-learn (m .fcm) (m .dfcm) f' d' between c' w (ready-learn f d (m .fcm) (m .dfcm) c between v r refl) (rw l e)
 
 -- the carry before the first word
 abbrev pub start : Carry

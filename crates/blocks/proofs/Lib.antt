@@ -3,6 +3,7 @@ pub mod Tables
 pub mod Codes
 pub mod Learn
 pub mod Put
+pub mod Stage
 pub mod PutLoop
 pub mod Accept
 pub mod Get

@@ -1,20 +1,25 @@
 -- What the inner functions require and ensure. No promise of a call is stated here.
 use mathlib.Core.Path.{_≡_}
 use Prim.Native.Nat.{ℕ, _+_, _*_, _/_, _%_, _^_, _<_, _≤_}
-use mathlib.Core.List.{List}
+use mathlib.Core.List.{List, _++_}
 use mathlib.Core.Bool.{cond}
 use lib.Dec.{eqb}
-use lib.ListN.{length, set, replicate}
+use lib.ListN.{length, set, take, drop, replicate}
 use lib.Seq.{sets}
+use Rattle.words.specs.Bytes.{field}
 use Rattle.blocks.specs.Predictors.{Memory, cleared, learn, after}
-use Rattle.blocks.specs.Codes.{codedWord, codedWords, decodedWord, residualBytes}
+use Rattle.blocks.specs.Codes.{written, codedWord, codedWords, decodedWord, residualBytes}
 use Rattle.blocks.specs.Block.{codes, codeBytes, allResidualBytes, residualsAt, worst, block, wordsIn}
 use Rattle.blocks.specs.Block as Block
 use Rattle.blocks.specs.Numbers.{tOf, over, blockNumber}
 use Rattle.blocks.specs.declared.predict.Carry.{Carry}
 use Rattle.blocks.specs.declared.Coded.{Coded}
+use Rattle.blocks.specs.declared.packing.Staging.{Staging}
 use Rattle.blocks.specs.declared.packing.Step.{Step}
+use Rattle.blocks.specs.declared.packing.Pair.{Pair}
+use Rattle.blocks.specs.declared.packing.Pending.{Pending}
 use Rattle.blocks.specs.declared.reading.Back.{Back}
+use Rattle.blocks.specs.declared.reading.Place.{Place}
 
 -- the two tables, and the hashes and the last word that the code carries, as one memory
 abbrev pub memory : List ℕ → List ℕ → Carry → Memory
@@ -38,30 +43,65 @@ pub record Masked (mask hash : ℕ) : Type 0 where
   pub power : mask + 1 ≡ 2 ^ tOf (mask + 1)
   pub below : hash ≤ mask
 
--- a word was coded and learnt, from the memory m to the tables f and d
-pub record Codes (t : ℕ) (m : Memory) (v : ℕ) (f d : List ℕ) (r : Step) : Type 0 where
-  pub coded : r .coded ≡ codedWord m v
+-- room in the stage for k bytes behind those that are staged
+pub record StageRoom (stage : List ℕ) (staged k : ℕ) : Type 0 where
+  pub room : staged + k ≤ length stage
+  pub small : length stage ≤ 512
+
+-- residual bytes are staged behind those that were there: the first bytes of the stage are the old ones, then these
+pub record Stages (stage : List ℕ) (staged : ℕ) (bytes stage' : List ℕ) (staged' : ℕ) : Type 0 where
+  pub count : staged' ≡ staged + length bytes
+  pub held : take staged' stage' ≡ take staged stage ++ bytes
+
+-- the residual bytes of a coded residual are staged, and its code is answered
+pub record StagesChosen (stage : List ℕ) (staged : ℕ) (c : Coded) (stage' : List ℕ) (r : Staging) : Type 0 where
+  pub code-is : r .code ≡ c .code
+  pub bytes : Stages stage staged (residualBytes c) stage' (r .staged)
+
+-- a word was coded, staged and learnt, from the memory m to the tables f and d
+pub record StagesWord (t : ℕ) (m : Memory) (v : ℕ) (stage : List ℕ) (staged : ℕ) (f d stage' : List ℕ) (r : Step) : Type 0 where
+  pub code-is : r .code ≡ codedWord m v .code
   pub learnt : memory f d (r .carry) ≡ learn t m v
+  pub bytes : Stages stage staged (residualBytes (codedWord m v)) stage' (r .staged)
+
+-- two words were
+pub record StagesPair (t : ℕ) (m : Memory) (v w : ℕ) (stage : List ℕ) (staged : ℕ) (f d stage' : List ℕ) (r : Pair) : Type 0 where
+  pub codes-are : r .codes ≡ codedWord m v .code * 16 + codedWord (learn t m v) w .code
+  pub learnt : memory f d (r .carry) ≡ learn t (learn t m v) w
+  pub bytes : Stages stage staged (residualBytes (codedWord m v) ++ residualBytes (codedWord (learn t m v) w)) stage' (r .staged)
+
+-- what is staged has room at its place
+pub record Staged (out stage : List ℕ) (p : Pending) : Type 0 where
+  pub few : p .staged ≤ length stage
+  pub room : p .at + p .staged ≤ length out
+
+-- room was made for two words more: what is staged is less, and what it comes to is the same
+pub record MakesRoom (out stage : List ℕ) (p : Pending) (out' : List ℕ) (r : Pending) : Type 0 where
+  pub few : r .staged ≤ 496
+  pub from : p .at ≤ r .at
+  pub same : r .at + r .staged ≡ p .at + p .staged
+  pub held : sets out' (r .at) (take (r .staged) stage) ≡ sets out (p .at) (take (p .staged) stage)
+
+-- a code with its residual, whose bytes start at a place
+abbrev pub codedAt : List ℕ → ℕ → ℕ → Coded
+codedAt b at code = record { code = code; residual = field (written code) at b }
+
+-- the word of a code can be decoded: its residual bytes start at a place of the block, with eight bytes before them
+pub record Decodable (b : List ℕ) (at code : ℕ) (f d : List ℕ) (c : Carry) : Type 0 where
+  pub ready : Ready f d c
+  pub past : 8 ≤ at
+  pub within : at + written code ≤ length b
 
 -- a word was decoded and learnt, from the memory m to the tables f and d
 pub record Decodes (t : ℕ) (m : Memory) (c : Coded) (f d : List ℕ) (r : Back) : Type 0 where
   pub word : r .word ≡ decodedWord m c
   pub learnt : memory f d (r .carry) ≡ learn t m (decodedWord m c)
 
--- the byte for the code of word i: in the high half with 7 below, or below the code of the word before
-unfoldable pub codeByte : ℕ → ℕ → ℕ → ℕ
-codeByte i before code = cond (eqb (i % 2) 1) (before * 16 + code) (code * 16 + 7)
-
--- out after word i: its code byte, and its residual bytes at a place
-abbrev pub putWord : List ℕ → ℕ → ℕ → ℕ → Coded → List ℕ
-putWord out i before at c = sets (set out (8 + i / 2) (codeByte i before (c .code))) at (residualBytes c)
-
--- room for word i: its code byte, then eight bytes; and codes of four bits
-pub record Room (out : List ℕ) (i before at code : ℕ) : Type 0 where
-  pub byte : 8 + i / 2 < length out
-  pub bytes : at + 8 ≤ length out
-  pub beforeSmall : before ≤ 15
-  pub codeSmall : code ≤ 15
+-- the word of a code was decoded and learnt, from the memory m to the tables f and d, and put as word i
+pub record GetsWord (t : ℕ) (m : Memory) (b : List ℕ) (at code : ℕ) (words : List ℕ) (i : ℕ) (f d words' : List ℕ) (r : Place) : Type 0 where
+  pub word : words' ≡ set words i (decodedWord m (codedAt b at code))
+  pub learnt : memory f d (r .carry) ≡ learn t m (decodedWord m (codedAt b at code))
+  pub next : r .at ≡ at + written code
 
 -- nothing refuses to pack: words, tables and output in number
 pub record Packable (n f d bytes : ℕ) : Type 0 where
@@ -75,11 +115,37 @@ pub record Cleared (f d : List ℕ) : Type 0 where
   pub fcm : f ≡ replicate (length f) 0
   pub dfcm : d ≡ replicate (length f) 0
 
--- words to be put, with cleared tables and room for the worst block
-pub record Putting (words f d out : List ℕ) : Type 0 where
+-- words to be put, with cleared tables, room for the worst block, and a stage
+pub record Putting (words f d out stage : List ℕ) : Type 0 where
   pub cleared : Cleared f d
   pub few : length words ≤ 65536
   pub room : worst (length words) ≤ length out
+  pub stageLong : length stage ≡ 512
+
+-- the coded words from word i on
+abbrev pub left : ℕ → List ℕ → Memory → ℕ → List Coded
+left t ws m i = codedWords t m (drop i ws)
+
+-- Finishing from here, over the words from 2k on, leaves what the whole run leaves. What is staged comes before what is left.
+pub record Going (ws f₀ d₀ out₀ f d out stage : List ℕ) (at staged : ℕ) (c : Carry) (k : ℕ) : Type 0 where
+  pub upto : 2 * k ≤ length ws
+  pub fcmLong : length f ≡ length f₀
+  pub dfcmLong : length d ≡ length d₀
+  pub outLong : length out ≡ length out₀
+  pub stageLong : length stage ≡ 512
+  pub ready : Ready f d c
+  pub few : staged ≤ 512
+  pub from : residualsAt (length ws) ≤ at
+  pub to : at + staged ≤ residualsAt (length ws) + 16 * k
+  pub state : after (tOf (length f₀)) (memory f d c) (drop (2 * k) ws) ≡ after (tOf (length f₀)) (cleared (tOf (length f₀))) ws
+  pub end :
+      at + staged + length (allResidualBytes (left (tOf (length f₀)) ws (memory f d c) (2 * k)))
+      ≡ residualsAt (length ws) + length (allResidualBytes (codedWords (tOf (length f₀)) (cleared (tOf (length f₀))) ws))
+  pub bytes :
+      sets (sets out (8 + k) (codeBytes (codes (left (tOf (length f₀)) ws (memory f d c) (2 * k))))) at
+      (take staged stage ++ allResidualBytes (left (tOf (length f₀)) ws (memory f d c) (2 * k)))
+      ≡ sets (sets out₀ 8 (codeBytes (codes (codedWords (tOf (length f₀)) (cleared (tOf (length f₀))) ws)))) (residualsAt (length ws))
+      (allResidualBytes (codedWords (tOf (length f₀)) (cleared (tOf (length f₀))) ws))
 
 -- the codes and the residual bytes of words are put, and the tables are the predictors' after them
 pub record Puts (t : ℕ) (words out f' d' out' : List ℕ) (e : ℕ) : Type 0 where

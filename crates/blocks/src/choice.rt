@@ -1,16 +1,11 @@
 // The choice between the two residuals, and the code of the chosen one.
 ghost use mathlib.Core.Path.{_≡_};
 ghost use mathlib.Core.Bool.{cond};
-ghost use Prim.Native.Nat.{_≤_};
-ghost use Rattle.blocks.specs.Codes.{dfcmChosen, lowThree, written, codedBy, chosen};
+ghost use Prim.Native.Nat.{min, _≤_, _<_};
+ghost use lib.Dec.{ltb};
+ghost use Rattle.words.specs.Words.{zeroBytes};
+ghost use Rattle.blocks.specs.Codes.{lowThree, written, chosen};
 use crate::Coded;
-
-// Whether the residual by dfcm is chosen.
-fn dfcm_chosen(by_fcm: u64, by_dfcm: u64) -> bool
-    ensures { λ r. ⌜ r ≡ dfcmChosen «by_fcm» «by_dfcm» ⌝ }
-{
-    words::zero_bytes(by_fcm) < words::zero_bytes(by_dfcm)
-}
 
 // The top bit of a code.
 fn top_bit(dfcm: bool) -> u8
@@ -39,23 +34,45 @@ pub fn written(code: u8) -> usize
     if low < 4 { 8 - low } else { 7 - low }
 }
 
-// A residual with its code.
-fn coded_by(dfcm: bool, residual: u64) -> Coded
-    ensures { λ r. ⌜ r ≡ codedBy dfcm residual ⌝ }
+// The lesser of two residuals. It has the more leading zero bytes, or as many.
+fn lesser(a: u64, b: u64) -> u64
+    ensures { λ r. ⌜ r ≡ min a b ⌝ }
 {
-    Coded {
-        code: top_bit(dfcm) + low_three(words::zero_bytes(residual)),
-        residual,
-    }
+    if a < b { a } else { b }
 }
 
-// Of two residuals, the chosen one with its code.
+// Whether a residual has fewer leading zero bytes than some, which are 7 at most.
+fn has_fewer(residual: u64, zeros: u8) -> bool
+    requires { ⌜ zeros ≤ 7 ⌝ }
+    ensures { λ r. ⌜ r ≡ ltb (zeroBytes residual) zeros ⌝ }
+{
+    255 < (residual >> (56 - 8 * zeros))
+}
+
+// The residual that is chosen.
+fn picked(dfcm: bool, by_fcm: u64, by_dfcm: u64) -> u64
+    ensures { λ r. ⌜ r ≡ cond dfcm «by_dfcm» «by_fcm» ⌝ }
+{
+    if dfcm { by_dfcm } else { by_fcm }
+}
+
+// Of two residuals, neither of them 0, the chosen one with its code. The ladder is climbed once, for
+// the lesser, and not at all where no top byte is zero.
 pub fn chosen(by_fcm: u64, by_dfcm: u64) -> Coded
+    requires { ⌜ (0 < «by_fcm») × (0 < «by_dfcm») ⌝ }
     ensures { λ r. ⌜ r ≡ chosen «by_fcm» «by_dfcm» ⌝ }
 {
-    if dfcm_chosen(by_fcm, by_dfcm) {
-        coded_by(true, by_dfcm)
-    } else {
-        coded_by(false, by_fcm)
+    let least = lesser(by_fcm, by_dfcm);
+    if 72057594037927936 <= least {
+        return Coded {
+            code: 0,
+            residual: by_fcm,
+        };
+    }
+    let zeros = words::zero_bytes(least);
+    let dfcm = has_fewer(by_fcm, zeros);
+    Coded {
+        code: top_bit(dfcm) + low_three(zeros),
+        residual: picked(dfcm, by_fcm, by_dfcm),
     }
 }

@@ -1,14 +1,15 @@
 // Checking a block and unpacking it.
 ghost use mathlib.Core.Path.{_≡_};
-ghost use Prim.Native.Nat.{_+_, _/_, _≤_, _<_};
+ghost use Prim.Native.Nat.{_+_, _/_, _%_, _≤_, _<_};
 ghost use lib.ListN.{length, getD, drop};
+ghost use Rattle.words.specs.Words.{xor};
+ghost use Rattle.words.specs.Bytes.{field};
 ghost use Rattle.blocks.specs.Block.{count, halves, countedCodes, residualLength};
-ghost use Rattle.blocks.specs.Codes.{namedPrediction};
+ghost use Rattle.blocks.specs.Codes.{written, namedPrediction};
 ghost use Rattle.blocks.specs.Numbers.{tOf, fillerStands, blockNumber, unpackNumber};
 ghost use Rattle.blocks.specs.Calls.{checked, Unpacks};
-ghost use Rattle.blocks.specs.Inside.{memory, Ready, Decodes, Counted, Getting, Gets, Unpackable, UnpacksAll};
+ghost use Rattle.blocks.specs.Inside.{memory, Ready, codedAt, Decodable, Decodes, GetsWord, Counted, Getting, Gets, Unpackable, UnpacksAll};
 use crate::Checked;
-use crate::Coded;
 use crate::Unpacked;
 use crate::choice;
 use crate::numbers;
@@ -19,6 +20,12 @@ use crate::predict::Carry;
 pub struct Back {
     pub carry: Carry,
     pub word: u64,
+}
+
+// Where a word is read: its residual bytes start there, and this is what the predictors carry.
+pub struct Place {
+    pub at: usize,
+    pub carry: Carry,
 }
 
 // The word count that a block declares.
@@ -39,18 +46,32 @@ fn half(block: &[u8], i: usize) -> u8
     if i % 2 == 0 { byte / 16 } else { byte % 16 }
 }
 
+// How many residual bytes the two codes of a byte have. In eight bits, so that the loop below does
+// many bytes at a time.
+fn both_written(byte: u8) -> u32
+    ensures { λ r. ⌜ (r ≡ written (byte / 16) + written (byte % 16)) × (r ≤ 16) ⌝ }
+{
+    let high = byte / 16 % 8;
+    let low = byte % 8;
+    (16 - high - high / 4 - low - low / 4) as u32
+}
+
 // How many residual bytes the counted codes have.
 fn residual_length(block: &[u8], codes: usize) -> usize
     requires { ⌜ Counted (now block) codes ⌝ }
     ensures { λ r. ⌜ r ≡ residualLength (countedCodes (now (block .entry))) ⌝ }
 {
-    let mut sum = 0;
-    let mut i = 0;
-    while i < codes {
-        sum += choice::written(half(block, i));
-        i += 1;
+    let pairs = codes / 2;
+    let mut sum: u32 = 0;
+    let mut j = 0;
+    while j < pairs {
+        sum += both_written(block[8 + j]);
+        j += 1;
     }
-    sum
+    if codes % 2 == 1 {
+        return sum as usize + choice::written(half(block, codes - 1));
+    }
+    sum as usize
 }
 
 // Whether an odd count has 7 as the last low half.
@@ -138,38 +159,84 @@ fn named_prediction(fcm: &[u64], dfcm: &[u64], carry: Carry, code: u8) -> u64
     std::num::wrapping_add_u64(dfcm[dfcm_hash], carry.last)
 }
 
-// Decodes one word, and both predictors learn it.
-fn decode_word(fcm: &mut [u64], dfcm: &mut [u64], carry: Carry, coded: Coded) -> Back
-    requires { ⌜ Ready (now fcm) (now dfcm) carry ⌝ }
-    ensures { λ r. ⌜ Decodes (tOf (length (now (fcm .entry)))) (memory (now (fcm .entry)) (now (dfcm .entry)) carry) coded (now (fcm .exit)) (now (dfcm .exit)) r ⌝ }
+// The word of a code: its prediction, corrected by the residual whose bytes start at a place. Most
+// words are predicted whole. Eight bytes always end with the residual: two fields precede the codes.
+fn corrected(block: &[u8], at: usize, code: u8, predicted: u64) -> u64
+    requires { ⌜ (8 ≤ at) × (at + written code ≤ length (now block)) ⌝ }
+    ensures { λ r. ⌜ r ≡ xor (field (written code) at (now (block .entry))) predicted ⌝ }
 {
-    let word = coded.residual ^ named_prediction(fcm, dfcm, carry, coded.code);
+    let k = choice::written(code);
+    if k == 0 {
+        return predicted;
+    }
+    words::load_bytes(block, at, k) ^ predicted
+}
+
+// Decodes the word of a code whose residual bytes start at a place, and both predictors learn it.
+fn decode_word(
+    block: &[u8],
+    at: usize,
+    code: u8,
+    fcm: &mut [u64],
+    dfcm: &mut [u64],
+    carry: Carry,
+) -> Back
+    requires { ⌜ Decodable (now block) at code (now fcm) (now dfcm) carry ⌝ }
+    ensures { λ r. ⌜ Decodes (tOf (length (now (fcm .entry)))) (memory (now (fcm .entry)) (now (dfcm .entry)) carry) (codedAt (now (block .entry)) at code) (now (fcm .exit)) (now (dfcm .exit)) r ⌝ }
+{
+    let predicted = named_prediction(fcm, dfcm, carry, code);
+    let word = corrected(block, at, code, predicted);
     let next = predict::learn(fcm, dfcm, carry, word);
     Back { carry: next, word }
 }
 
-// Reads the codes and residuals of a block's n words and decodes them, the tables being cleared.
+// Reads the word of a code, at a place, as word i. Answers the place of the next word.
+fn get_word(
+    block: &[u8],
+    place: Place,
+    code: u8,
+    fcm: &mut [u64],
+    dfcm: &mut [u64],
+    words: &mut [u64],
+    i: usize,
+) -> Place
+    requires { ⌜ (Decodable (now block) (place .at) code (now fcm) (now dfcm) (place .carry)) × (i < length (now words)) ⌝ }
+    ensures { λ r. ⌜ GetsWord (tOf (length (now (fcm .entry)))) (memory (now (fcm .entry)) (now (dfcm .entry)) (place .carry)) (now (block .entry)) (place .at) code (now (words .entry)) i (now (fcm .exit)) (now (dfcm .exit)) (now (words .exit)) r ⌝ }
+{
+    let at = place.at;
+    let carry = place.carry;
+    let back = decode_word(block, at, code, fcm, dfcm, carry);
+    words[i] = back.word;
+    let next = back.carry;
+    Place {
+        at: at + choice::written(code),
+        carry: next,
+    }
+}
+
+// Reads a block's n words, the tables being cleared. Two words a turn: a byte holds two codes.
 fn get_words(block: &[u8], n: usize, fcm: &mut [u64], dfcm: &mut [u64], words: &mut [u64])
     requires { ⌜ Getting (now block) n (now fcm) (now dfcm) (now words) ⌝ }
     ensures { λ _. ⌜ Gets (tOf (length (now (fcm .entry)))) (now (block .entry)) (now (words .entry)) (now (fcm .exit)) (now (dfcm .exit)) (now (words .exit)) ⌝ }
 {
-    let mut at = 8 + (n + 1) / 2;
-    let mut carry = Carry {
-        fcm: 0,
-        dfcm: 0,
-        last: 0,
+    let pairs = n / 2;
+    let mut place = Place {
+        at: 8 + (n + 1) / 2,
+        carry: Carry {
+            fcm: 0,
+            dfcm: 0,
+            last: 0,
+        },
     };
-    let mut i = 0;
-    while i < n {
-        let code = half(block, i);
-        let k = choice::written(code);
-        let residual = words::get_bytes(block, at, k);
-        let back = decode_word(fcm, dfcm, carry, Coded { code, residual });
-        words[i] = back.word;
-        at += k;
-        let next = back.carry;
-        carry = next;
-        i += 1;
+    let mut j = 0;
+    while j < pairs {
+        let byte = block[8 + j];
+        let middle = get_word(block, place, byte / 16, fcm, dfcm, words, 2 * j);
+        place = get_word(block, middle, byte % 16, fcm, dfcm, words, 2 * j + 1);
+        j += 1;
+    }
+    if n % 2 == 1 {
+        get_word(block, place, half(block, n - 1), fcm, dfcm, words, n - 1);
     }
 }
 

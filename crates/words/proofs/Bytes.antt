@@ -1,13 +1,13 @@
 -- Bytes low first, and the number that they make.
-use mathlib.Core.Path.{_≡_, refl, ap}
+use mathlib.Core.Path.{_≡_, refl, ap, _∙_}
 use mathlib.Core.List.{List, [], _∷_}
 use Prim.Native.Nat.{ℕ, zero, suc, _+_, _-_, _*_, _/_, _^_, _≤_, _<_}
 use native.Mathlib.Omega.{arith}
-use native.Mathlib.Nat.{pow-suc, div-lt-iff-lt-mul}
+use native.Mathlib.Nat.{zero-add, suc-add, mul-zero, mul-assoc, mul-comm, pow-suc, pow-succ', div-eq-of-lt, div-lt-iff-lt-mul, add-mul-div-left}
 use lib.ListN.{length, getD, take, drop}
-use lib.Seq.{drop-cons, getD-drop}
+use lib.Seq.{take-nil, drop-cons, drop-drop, getD-drop}
 use Rattle.words.specs.Bytes.{Bytes, lowBytes, number, field}
-use Rattle.words.proofs.Zeros.{pow-256-le}
+use Rattle.words.proofs.Zeros.{pow-256, pow-256-le}
 
 pub length-low : (k x : ℕ) → length (lowBytes k x) ≡ k
 length-low zero x = refl
@@ -25,6 +25,24 @@ pub number-below : (k : ℕ) (bs : List ℕ) → Bytes bs → number (take k bs)
 number-below zero bs h = omega arith
 number-below (suc k) [] h = omega (arith, number-below k [] h, pow-suc 256 k)
 number-below (suc k) (b ∷ bs) h = rw pow-suc (omega (arith, number-below k bs (λ i. h (suc i)), h 0))
+
+-- ---- a field in two parts
+
+number-joined : (j k : ℕ) (bs : List ℕ) → number (take (j + k) bs) ≡ number (take j bs) + 256 ^ j * number (take k (drop j bs))
+number-joined zero k bs = rw (zero-add k) (omega arith)
+number-joined (suc j) k [] = rw (take-nil (suc j + k), take-nil k, mul-zero)
+number-joined (suc j) k (b ∷ bs) =
+    rw (suc-add j k, pow-succ' 256 j, mul-assoc 256 (256 ^ j) (number (take k (drop j bs)))) (omega (arith, number-joined j k bs))
+
+-- the first j bytes, then the k after them
+field-joined : (j k at : ℕ) (bs : List ℕ) → field (j + k) at bs ≡ field j at bs + 256 ^ j * field k (at + j) bs
+field-joined j k at bs = number-joined j k (drop at bs) ∙ rw drop-drop
+
+pub field-one : (at b : ℕ) (bs : List ℕ) → at < length bs → b ≡ getD bs at 0 → b ≡ field 1 at bs
+field-one at b bs h e = rw (e, drop-cons bs at 0 h) (omega arith)
+
+pub field-of : (j k at low high : ℕ) (bs : List ℕ) → low ≡ field j at bs → high ≡ field k (at + j) bs → low + high * 256 ^ j ≡ field (j + k) at bs
+field-of j k at low high bs e f = rw (e, f, field-joined j k at bs, mul-comm (field k (at + j) bs) (256 ^ j))
 
 -- ---- reading a field from its last byte down
 
@@ -65,3 +83,17 @@ reading-all bs at k j x h g =
 -- a field of k bytes is below 256 ^ k
 pub field-below : (k at : ℕ) (bs : List ℕ) → ((i : ℕ) → getD bs i 0 < 256) → field k at bs < 256 ^ k
 field-below k at bs h = number-below k (drop at bs) (λ i. rw (getD-drop at bs i 0) (h (at + i)))
+
+-- of j + k bytes with the first j shifted out, the last k are left
+field-last : (j k at : ℕ) (bs : List ℕ) → Bytes bs → field (j + k) at bs / 2 ^ (8 * j) ≡ field k (at + j) bs
+field-last j k at bs h =
+    let l = field-below j at bs h in
+    let p : 0 < 256 ^ j = omega (arith, l) in
+    rw (← (pow-256 j), field-joined j k at bs, add-mul-div-left (field j at bs) (field k (at + j) bs) p, div-eq-of-lt l, zero-add)
+
+-- so k bytes are read from the eight that end with them
+pub field-shifted : (k at x : ℕ) (bs : List ℕ) → Bytes bs → k ≤ 8 → 8 ≤ at + k → x ≡ field 8 (at - (8 - k)) bs → x / 2 ^ (8 * (8 - k)) ≡ field k at bs
+field-shifted k at x bs h l m e =
+    let n : 8 - k + k ≡ 8 = omega arith in
+    let p : at - (8 - k) + (8 - k) ≡ at = omega arith in
+    rw e (rw (n, p) at (field-last (8 - k) k (at - (8 - k)) bs h))

@@ -1,17 +1,17 @@
 -- Leading zero bytes. Nothing else opens `zeroBytes`.
-use mathlib.Core.Path.{_≡_, refl}
+use mathlib.Core.Path.{_≡_, refl, sym, ap, _∙_}
 use Prim.Native.Nat.{ℕ, zero, suc, _+_, _-_, _*_, _/_, _^_, _≤_, _<_}
 use native.Mathlib.Omega.{arith}
-use native.Mathlib.Nat.{lt-of-not-le, not-le-of-lt, lt-of-le-of-lt, lt-of-lt-of-le, le-trans, pow-suc, pow-le-pow-right}
+use native.Mathlib.Nat.{lt-of-not-le, not-le-of-lt, lt-of-le-of-lt, lt-of-lt-of-le, le-trans, pow-suc, pow-le-pow-right, mul-comm, le-div-iff-mul-le, div-lt-iff-lt-mul}
 use lib.Pow.{pow-mono, pow-add}
 use lib.Count.{leadingZeros, leading-le, leading-top, leading-length, leading-of-zero}
 use lib.Dec.{ltb}
-use borrow.Author.Tests.{ltb-true, ltb-false}
+use borrow.Author.Tests.{ltb-true, ltb-false, lt-ltb, le-ltb}
 use Rattle.words.specs.Words.{zeroBytes}
 use Rattle.words.proofs.Tests.{either}
 
 -- a byte is eight bits
-pow-256 : (k : ℕ) → 256 ^ k ≡ 2 ^ (8 * k)
+pub pow-256 : (k : ℕ) → 256 ^ k ≡ 2 ^ (8 * k)
 pow-256 zero = refl
 pow-256 (suc k) =
     let e : 8 * suc k ≡ 8 * k + 8 = omega arith in
@@ -59,3 +59,25 @@ zeros-above k r l h u =
     let a : 8 - (k + 1) ≤ zeroBytes r = zeros-of-fit r (k + 1) w u in
     let b : k < 8 - zeroBytes r = pow-256-lt k _ (lt-of-le-of-lt h (zeros-within r w)) in
     omega arith
+
+-- of two words the greater has no more leading zero bytes
+pub zeros-fall : (a b : ℕ) → a ≤ b → b < 2 ^ 64 → zeroBytes b ≤ zeroBytes a
+zeros-fall a b l h = omega (arith, zeros-of-fit a (8 - zeroBytes b) (omega arith) (lt-of-le-of-lt l (zeros-within b h)), zeros-at-most b)
+
+-- fewer than z leading zero bytes, seen by one shift
+pub zeros-fewer : (r z : ℕ) → z ≤ 7 → r < 2 ^ 64 → ltb 255 (r / 2 ^ (56 - 8 * z)) ≡ ltb (zeroBytes r) z
+zeros-fewer r z l h =
+    let s : 56 - 8 * z ≡ 8 * (7 - z) = omega arith in
+    let n : 8 - z ≡ suc (7 - z) = omega arith in
+    let p : 256 ^ (8 - z) ≡ 256 * 256 ^ (7 - z) = ap (λ (k : ℕ). 256 ^ k) n ∙ pow-suc 256 (7 - z) ∙ mul-comm _ _ in
+    let d : 0 < 256 ^ (7 - z) = pow-256-le {a = 0} {b = 7 - z} (omega arith) in
+    rw (s, ← (pow-256 (7 - z)))
+    (either (ltb (zeroBytes r) z)
+    (λ e.
+    let g : 256 ^ (8 - z) ≤ r =
+    either (ltb r (256 ^ (8 - z))) (λ q. absurd (omega (arith, ltb-true (zeroBytes r) z e, zeros-of-fit r (8 - z) h (ltb-true r (256 ^ (8 - z)) q))))
+    (λ q. ltb-false r (256 ^ (8 - z)) q) in
+    lt-ltb 255 (r / 256 ^ (7 - z)) (omega (arith, le-div-iff-mul-le {x = 256} {y = r} d .1 (rw p at g))) ∙ sym e)
+    (λ e.
+    let g : r < 256 ^ (8 - z) = lt-of-lt-of-le (zeros-within r h) (pow-256-le (omega (arith, ltb-false (zeroBytes r) z e))) in
+    le-ltb 255 (r / 256 ^ (7 - z)) (omega (arith, div-lt-iff-lt-mul {x = r} {y = 256} d .1 (rw p at g))) ∙ sym e))

@@ -83,6 +83,40 @@ pub fn get_bytes(src: &[u8], at: usize, k: usize) -> u64
     x
 }
 
+// Reads two bytes. Loads are joined by sums, two by two, so that eight of them compile to one.
+fn load_two(src: &[u8], at: usize) -> u64
+    requires { ⌜ at + 2 ≤ length (now src) ⌝ }
+    ensures { λ r. ⌜ (r ≡ field 2 at (now (src .entry))) × (r < 65536) ⌝ }
+{
+    wide(src[at]) + wide(src[at + 1]) * 256
+}
+
+// Reads four bytes.
+fn load_four(src: &[u8], at: usize) -> u64
+    requires { ⌜ at + 4 ≤ length (now src) ⌝ }
+    ensures { λ r. ⌜ (r ≡ field 4 at (now (src .entry))) × (r < 4294967296) ⌝ }
+{
+    load_two(src, at) + load_two(src, at + 2) * 65536
+}
+
+// Reads eight bytes.
+fn load_eight(src: &[u8], at: usize) -> u64
+    requires { ⌜ at + 8 ≤ length (now src) ⌝ }
+    ensures { λ r. ⌜ r ≡ field 8 at (now (src .entry)) ⌝ }
+{
+    load_four(src, at) + load_four(src, at + 4) * 4294967296
+}
+
+// Reads the number in a field of k bytes at a place by one load: of the eight bytes that end with
+// it, so that nothing past it is read, with those before it shifted out.
+pub fn load_bytes(src: &[u8], at: usize, k: usize) -> u64
+    requires { ⌜ (0 < k) × (k ≤ 8) × (8 ≤ at + k) × (at + k ≤ length (now src)) ⌝ }
+    ensures { λ r. ⌜ r ≡ field k at (now (src .entry)) ⌝ }
+{
+    let before = 8 - k;
+    load_eight(src, at - before) >> (8 * before)
+}
+
 // Whether two slices hold the same bytes.
 pub fn same(a: &[u8], b: &[u8]) -> bool
     ensures { λ r. ⌜ r ≡ sameBytes (now (a .entry)) (now (b .entry)) ⌝ }

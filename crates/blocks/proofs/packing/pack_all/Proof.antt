@@ -9,12 +9,15 @@ clear-requires c κs = search needs
 clear-requires-2 : tie.Need-clear-requires-2
 clear-requires-2 c κs = search needs
 
+slice-aggregate-put-words : tie.Need-slice-aggregate-put-words
+slice-aggregate-put-words c = search needs
+
 put-words-requires : tie.Need-put-words-requires
 put-words-requires c κs =
-    let at-clear2 = c .before .before .before .before .before in
+    let at-clear2 = c .before .before .before .before .before .before in
     let at-clear = at-clear2 .before .before .before .before in
     let entry = at-clear .before .before .before .before .before .before in
-    putting-of _ (entry .args .fcm .now) (entry .args .dfcm .now) _ _ _ (entry .pre) (at-clear .clear .ensures) (at-clear2 .clear2 .ensures)
+    putting-of _ (entry .args .fcm .now) (entry .args .dfcm .now) _ _ _ _ (entry .pre) (at-clear .clear .ensures) (at-clear2 .clear2 .ensures) (search needs)
 
 put-head-requires : tie.Need-put-head-requires
 put-head-requires c κs = search needs
@@ -31,8 +34,8 @@ same-length-3 c = search needs
 returns : tie.Need-returns
 returns c =
     let at-put-head = c .before .before in
-    let at-put-words = at-put-head .before .before .before .before .before .before .before .before in
-    let at-clear = at-put-words .before .before .before .before .before .before .before .before .before .before in
+    let at-put-words = at-put-head .before .before .before .before .before .before .before .before .before in
+    let at-clear = at-put-words .before .before .before .before .before .before .before .before .before .before .before in
     let entry = at-clear .before .before .before .before .before .before in
     packs-all _ (entry .args .fcm .now) (entry .args .dfcm .now) _ (at-clear .clear .last .0) _ _ _ _ _ (entry .pre) (at-clear .clear .kept .0) (at-put-words .put-words .ensures) (at-put-head .put-head .ensures)
 
@@ -42,6 +45,7 @@ pack-all-spec =
     (tie.spec
     clear-requires
     clear-requires-2
+    slice-aggregate-put-words
     put-words-requires
     put-head-requires
     same-length
