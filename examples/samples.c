@@ -14,7 +14,7 @@
 #define T 10u
 #define EXAM UINT64_C(20240117)
 
-static uint8_t file[COIL_EMPTY_FILE + SLOTS * COIL_APPEND_ROOM(0, VALUES)];
+static uint8_t file[COIL_FILE_ROOM(SLOTS, VALUES)];
 static uint8_t bench[COIL_WORST(VALUES)];
 static uint64_t fcm[COIL_TABLE_WORDS(T)];
 static uint64_t dfcm[COIL_TABLE_WORDS(T)];
@@ -46,14 +46,15 @@ static void write_file(const char *folder, const char *name, const uint8_t *from
 
 int main(int argc, char **argv)
 {
-    size_t length;
+    size_t length, new_length;
     if (argc != 2 || coil_create(file, sizeof file, EXAM, T, &length) != COIL_DONE)
         return 2;
     for (uint32_t slot = 0; slot < SLOTS; slot++) {
         make_map(slot);
         if (coil_append(file, sizeof file, length, EXAM, slot, words, VALUES >> slot, fcm, COIL_TABLE_WORDS(T),
-                        dfcm, COIL_TABLE_WORDS(T), bench, sizeof bench, &length) != COIL_DONE)
+                        dfcm, COIL_TABLE_WORDS(T), bench, sizeof bench, &new_length) != COIL_DONE)
             return 1;
+        length = new_length;
     }
     make_map(0);
     for (size_t i = 0; i < sizeof bytes; i++)

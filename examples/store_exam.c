@@ -16,7 +16,7 @@
 #define EXAM UINT64_C(20240117)
 
 /* Room for every map at its worst; the maps will need far less. */
-static uint8_t file[COIL_EMPTY_FILE + MAPS * (COIL_APPEND_ROOM(0, VALUES))];
+static uint8_t file[COIL_FILE_ROOM(MAPS, VALUES)];
 static uint8_t bench[COIL_WORST(VALUES)];
 static uint64_t fcm[COIL_TABLE_WORDS(T)];
 static uint64_t dfcm[COIL_TABLE_WORDS(T)];

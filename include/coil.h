@@ -1,7 +1,7 @@
 /* coil.h - pack 64-bit words into blocks and keep the blocks of one exam in one file.
  *
- * Link with libcoil.a, which is for x86-64 Linux and calls nothing but memset. This header is the
- * manual. It is C99 and C++17.
+ * Link with libcoil.a, which is for x86-64 Linux and calls nothing but memset and memcpy. This header is
+ * the manual. It is C99 and C++17.
  *
  * WHAT THE STORE DOES
  *
@@ -15,7 +15,8 @@
  * WHAT YOU LEND
  *
  * Every pointer is lent for the time of the call only. The library allocates nothing, prints nothing
- * and keeps nothing between calls: no pointer, no table, no setting. It has no global state. Two
+ * and keeps nothing between calls: no pointer, no table, no setting. It takes less than 1 KB of stack. It
+ * has no global state. Two
  * threads may call at once as long as neither writes into memory that the other uses.
  *
  * The C side is checked by nothing. These four rules are yours to keep, and breaking one is undefined:
@@ -89,6 +90,9 @@ extern "C" {
  * the append is the new length, often much smaller. */
 #define COIL_APPEND_ROOM(length, n) ((size_t)(length) + 12 + COIL_WORST(n))
 
+/* Bytes of buffer in which k maps of at most n words can be kept, one append after the other. */
+#define COIL_FILE_ROOM(k, n) (COIL_EMPTY_FILE + (size_t)(k) * COIL_APPEND_ROOM(0, n))
+
 /* ---- Numbers answered ------------------------------------------------------------------------- */
 
 /* Done. */
@@ -142,8 +146,8 @@ uint32_t coil_pack(const uint64_t *words, size_t words_len,
  *
  * Checks in order: 4 under 8 bytes; 2 declares more than 65,536 words; 5 length; 6 filler.
  * A block that passes is not refused by coil_unpack, given two tables of one size and the room. It need
- * not be a block that coil_pack would write. The number of words it declares is its first 4 bytes, least significant byte
- * first: so much room coil_unpack asks for. */
+ * not be a block that coil_pack would write. The number of words it declares is its first 4 bytes, least
+ * significant byte first: so much room coil_unpack asks for. */
 uint32_t coil_check(const uint8_t *block, size_t block_len);
 
 /* Unpack a block into words.
@@ -164,7 +168,8 @@ uint32_t coil_unpack(const uint8_t *block, size_t block_len,
 
 /* A file is lent as a buffer of file_len bytes. The file itself is the first length bytes of it. What
  * lies beyond length is free room for appending. Keep the length with the buffer: each call that makes
- * or changes a file answers the new one. To store the file on disk, write its first length bytes.
+ * or changes a file answers the new one. To store the file on disk, write its first length bytes, best under
+ * a new name that then replaces the old one. To go on with it, read it into a buffer with room to append.
  *
  * "open" in the lists of checks below is all of coil_open's checks in their order. */
 
@@ -189,7 +194,8 @@ uint32_t coil_create(uint8_t *file, size_t file_len, uint64_t exam, uint32_t t, 
  * The blocks themselves are not checked here. coil_fetch checks the block it reads.
  * A program that does not know the t of a file it has opened finds it in the 2 bytes from
  * file[length - 26], and the number of entries in the 4 bytes from file[length - 12], both least
- * significant byte first. */
+ * significant byte first. The exam number is the 8 bytes from file[length - 24]; the entries, 12 bytes each,
+ * slot first, end at file[length - 32]. docs/FORMAT.md has every byte. */
 uint32_t coil_open(const uint8_t *file, size_t file_len, size_t length, uint64_t exam);
 
 /* Find the block of a slot.
@@ -210,7 +216,9 @@ uint32_t coil_find(const uint8_t *file, size_t file_len, size_t length, uint64_t
  *
  *   file .. slot       as for coil_find
  *   fcm, dfcm          the two tables, of 2^t words with the file's t; cleared and used
- *   words, words_len   room for the words; as many as the slot holds are enough
+ *   words, words_len   room for the words; as many as the slot holds are enough. A program that does not
+ *                      know how many finds them, by coil_find, in the block's first 4 bytes, least
+ *                      significant byte first; COIL_MOST_WORDS are always enough
  *   count              becomes the number of words
  *
  * Checks in order: open (4, 7, 8, 9); 10 slot; 1 tables; the block's checks (2, 5, 6); 3 words_len

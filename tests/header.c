@@ -59,6 +59,7 @@ static void numbers_and_limits(void)
     is("worst of 1 + 2", COIL_WORST(1 + 2), 34);
     is("worst of all", COIL_WORST(COIL_MOST_WORDS), 557064);
     is("append room", COIL_APPEND_ROOM(32, 1), 61);
+    is("file room", COIL_FILE_ROOM(1 + 1, 1), 90);
     is("append room of a sum", 2 * COIL_APPEND_ROOM(30 + 2, 1 + 0), 122);
 }
 
