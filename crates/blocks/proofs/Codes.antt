@@ -145,13 +145,6 @@ chosen-whole f d h hf hd =
     let zd : 0 ≡ zeroBytes d = zeros-above 7 d (omega arith) (omega arith) hd in
     chosen-fcm f d (record { code = 0; residual = f }) (le-ltb (zeroBytes f) (zeroBytes d) (omega (arith, zf, zd))) (rw (← zf))
 
-pub zeros-of-lesser : (f d : ℕ) → 0 < f → 0 < d → f < 2 ^ 64 → d < 2 ^ 64 → zeroBytes (min f d) ≤ 7
-zeros-of-lesser f d pf pd hf hd =
-    either (ltb (zeroBytes (min f d)) 8) (λ e. omega (arith, ltb-true (zeroBytes (min f d)) 8 e))
-    (λ e.
-    let z : 8 - zeroBytes (min f d) ≡ 0 = omega (arith, ltb-false (zeroBytes (min f d)) 8 e) in
-    absurd (omega (arith, rw z at (zeros-within (min f d) (omega arith)))))
-
 pub coded-small : (m : Memory) (v : ℕ) → codedWord m v .code ≤ 15
 unfolding codedWord chosen
 coded-small m v =

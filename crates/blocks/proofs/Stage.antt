@@ -1,19 +1,16 @@
 -- Staging residual bytes: eight stored at a time, of which a code's own number counts.
 use mathlib.Core.Path.{_≡_, refl, sym, ap, _∙_}
-use mathlib.Core.Bool.{true, false}
 use mathlib.Core.List.{List, [], _∷_, _++_, append-nil, append-assoc}
 use Prim.Native.Nat.{ℕ, zero, suc, _+_, _-_, _*_, _/_, _%_, _^_, _≤_, _<_}
 use native.Mathlib.Omega.{arith}
 use native.Mathlib.Nat.{add-zero}
 use lib.ListN.{length, set, take, drop, length-append}
 use lib.Seq.{sets, sets-eq, take-append-add, take-append-le, length-take-le}
-use lib.Dec.{ltb}
-use borrow.Author.Tests.{lt-ltb, le-ltb, ltb-true, ltb-false}
-use Rattle.words.proofs.Tests.{either}
+use borrow.Author.Tests.{lt-ltb, le-ltb}
 use Rattle.words.specs.Words.{zeroBytes}
 use Rattle.words.specs.Bytes.{lowBytes}
 use Rattle.words.proofs.Bytes.{length-low}
-use Rattle.words.proofs.Zeros.{zeros-at-most, zeros-of-zero, zeros-within}
+use Rattle.words.proofs.Zeros.{zeros-at-most, zeros-of-zero, zeros-some}
 use Rattle.blocks.specs.Predictors.{Memory, learn}
 use Rattle.blocks.specs.Codes.{dfcmChosen, lowThree, written, codedBy, chosen, codedWord, residualBytes}
 use Rattle.blocks.specs.Inside.{memory, Stages, StagesChosen, StagesWord, StagesPair}
@@ -92,14 +89,6 @@ nothing-staged stage staged code c e z =
       bytes = record { count = rw (e, z) (sym (add-zero staged)); held = rw (e, z) (sym (append-nil _)) };
     }
 
--- a word that isn't 0 has a byte that isn't
-zeros-below : (r : ℕ) → r < 2 ^ 64 → (r ≡ 0 → ⊥) → zeroBytes r < 8
-zeros-below r h n =
-    either (ltb (zeroBytes r) 8) (λ e. ltb-true (zeroBytes r) 8 e)
-    (λ e.
-    let z : 8 - zeroBytes r ≡ 0 = omega (arith, ltb-false (zeroBytes r) 8 e) in
-    absurd (n (omega (arith, rw z at (zeros-within r h)))))
-
 pub fcm-zero : (stage : List ℕ) (staged f d : ℕ) → f ≡ 0 → StagesChosen stage staged (chosen f d) stage (record { code = 7; staged = staged })
 unfolding dfcmChosen codedBy lowThree written
 fcm-zero stage staged f d e =
@@ -112,7 +101,7 @@ unfolding dfcmChosen codedBy lowThree written
 dfcm-zero stage staged f d h n e =
     let z = zeros-of-zero d e in
     nothing-staged stage staged 15 (chosen f d)
-    (sym (chosen-dfcm f d (record { code = 15; residual = 0 }) (lt-ltb (zeroBytes f) (zeroBytes d) (omega (arith, z, zeros-below f h n))) (rw (z, e)))) refl
+    (sym (chosen-dfcm f d (record { code = 15; residual = 0 }) (lt-ltb (zeroBytes f) (zeroBytes d) (omega (arith, z, zeros-some f h (omega (arith, n))))) (rw (z, e)))) refl
 
 -- ---- a word, and two
 

@@ -60,6 +60,14 @@ zeros-above k r l h u =
     let b : k < 8 - zeroBytes r = pow-256-lt k _ (lt-of-le-of-lt h (zeros-within r w)) in
     omega arith
 
+-- a word that isn't zero has a byte that isn't
+pub zeros-some : (r : ℕ) → r < 2 ^ 64 → 0 < r → zeroBytes r ≤ 7
+zeros-some r h p =
+    either (ltb (zeroBytes r) 8) (λ e. omega (arith, ltb-true (zeroBytes r) 8 e))
+    (λ e.
+    let z : 8 - zeroBytes r ≡ 0 = omega (arith, ltb-false (zeroBytes r) 8 e) in
+    absurd (omega (arith, rw z at (zeros-within r h))))
+
 -- of two words the greater has no more leading zero bytes
 pub zeros-fall : (a b : ℕ) → a ≤ b → b < 2 ^ 64 → zeroBytes b ≤ zeroBytes a
 zeros-fall a b l h = omega (arith, zeros-of-fit a (8 - zeroBytes b) (omega arith) (lt-of-le-of-lt l (zeros-within b h)), zeros-at-most b)

@@ -2,8 +2,8 @@ use mathlib.Core.Path.{_≡_, ap, _∙_}
 use Prim.Native.Nat.{min}
 use native.Mathlib.Omega.{arith}
 use Rattle.words.specs.Words.{zeroBytes}
-use Rattle.words.proofs.Zeros.{zeros-at-most}
-use Rattle.blocks.proofs.Codes.{coded-fits, chosen-of-lesser, chosen-whole, zeros-of-lesser}
+use Rattle.words.proofs.Zeros.{zeros-at-most, zeros-some}
+use Rattle.blocks.proofs.Codes.{coded-fits, chosen-of-lesser, chosen-whole}
 use borrow.Author.Needs.{needs}
 use Rattle.blocks.proofs.choice.chosen.Statement.{statement}
 use Rattle.blocks.proofs.choice.chosen.Tie as tie
@@ -24,7 +24,7 @@ has-fewer-requires c κs =
     let at-lesser = c .before .before in
     let entry = at-lesser .before in
     let z : c .zero-bytes .result ≡ zeroBytes (min (entry .args .by-fcm) (entry .args .by-dfcm)) = c .zero-bytes .ensures ∙ ap zeroBytes (at-lesser .lesser .ensures) in
-    omega (arith, z, zeros-of-lesser (entry .args .by-fcm) (entry .args .by-dfcm) (entry .pre .0) (entry .pre .1) (omega arith) (omega arith))
+    omega (arith, z, zeros-some (min (entry .args .by-fcm) (entry .args .by-dfcm)) (omega arith) (omega (arith, entry .pre .0, entry .pre .1)))
 
 top-bit-requires : tie.Need-top-bit-requires
 top-bit-requires c κs = search needs
