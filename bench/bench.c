@@ -2,14 +2,11 @@
  *
  * Writes nothing at all where a time would say nothing, or where the store and the two C versions of its
  * rules differ in a single byte. */
+#include "files.h"
 #include "inputs.h"
 #include "machine.h"
 #include "measure.h"
 #include "table.h"
-
-#ifdef __GLIBC__
-#include <malloc.h>
-#endif
 
 /* The general codecs run on the larger inputs only: the smaller ones are for the cost of a word. */
 static void fill_sheet(sheet *s, const input *in, size_t count)
@@ -20,7 +17,7 @@ static void fill_sheet(sheet *s, const input *in, size_t count)
     for (size_t i = 0; i < s->number; i++) {
         whom[i] = i < STORES ? &stores[i] : &codecs[i - STORES];
     }
-    in->fill(words, count);
+    in->fill(words, MOST_WORDS);
     measure(whom, s->number, words, count, s->results);
     fprintf(stderr, "bench: %s, %zu words: measured\n", in->name, count);
 }
@@ -36,16 +33,6 @@ static int sound(const sheet *s)
         }
     }
     return 1;
-}
-
-/* Some contenders allocate in every call. Without this the C library hands large pieces back to the kernel
- * each time, or not, by what ran before: their times would hang on the order of the contenders. */
-static void keep_memory(void)
-{
-#ifdef __GLIBC__
-    mallopt(M_MMAP_THRESHOLD, 1 << 25);
-    mallopt(M_TRIM_THRESHOLD, 1 << 28);
-#endif
 }
 
 static void say_missing(void)
@@ -66,9 +53,10 @@ static int write_all(const char *table, const char *lines, const sheet *sheets, 
         return 0;
     }
     write_same_rules(to_table, sheets, number);
+    int whole = write_files(to_table);
     write_general(to_table, sheets, number);
     write_lines(to_lines, sheets, number);
-    return fclose(to_table) == 0 && fclose(to_lines) == 0;
+    return fclose(to_table) == 0 && fclose(to_lines) == 0 && whole;
 }
 
 int main(int argc, char **argv)

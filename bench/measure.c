@@ -1,61 +1,83 @@
 /* See measure.h. */
 #include "measure.h"
+#include "clock.h"
 #include "inputs.h"
 
-#include <stdlib.h>
 #include <string.h>
-#include <time.h>
+
+#ifdef __GLIBC__
+#include <malloc.h>
+#endif
 
 #define ROUNDS 30
 #define TURN_NS 1000000.0   /* a contender's turn ends when so much time has passed ... */
-#define TURN_CALLS 16       /* ... or so many times were taken */
+#define TURN_TIMES 16       /* ... or so many times were taken */
 
 static uint8_t packed[PACKED_ROOM];
+static size_t packed_length[MOST_WORDS];   /* of each piece */
 static uint64_t unpacked[MOST_WORDS];
 
-static double now_ns(void)
+void keep_memory(void)
 {
-    struct timespec t;
-    clock_gettime(CLOCK_MONOTONIC, &t);
-    return 1e9 * (double)t.tv_sec + (double)t.tv_nsec;
+#ifdef __GLIBC__
+    mallopt(M_MMAP_THRESHOLD, 1 << 25);
+    mallopt(M_TRIM_THRESHOLD, 1 << 28);
+#endif
 }
 
-static job job_of(const contender *c, const uint64_t *words, size_t count)
+static job piece(const contender *c, const uint64_t *words, size_t count, size_t k)
 {
-    return (job){ words, count, row_words(count), c->t };
+    return (job){ words + k * count, count, row_words(count), c->t };
 }
 
-static void check(result *r, const job *j)
+/* Packs all pieces, each into its own part of the room. Answers their length together, or 0. */
+static size_t pack_all(const contender *c, const uint64_t *words, size_t count)
+{
+    size_t pieces = MOST_WORDS / count, room = PACKED_ROOM / pieces, length = 0;
+    for (size_t k = 0; k < pieces; k++) {
+        job j = piece(c, words, count, k);
+        packed_length[k] = c->pack(&j, packed + k * room, room);
+        if (packed_length[k] == 0) {
+            return 0;
+        }
+        length += packed_length[k];
+    }
+    return length;
+}
+
+static int unpack_all(const contender *c, const uint64_t *words, size_t count)
+{
+    size_t pieces = MOST_WORDS / count, room = PACKED_ROOM / pieces;
+    int whole = 1;
+    for (size_t k = 0; k < pieces; k++) {
+        job j = piece(c, words, count, k);
+        whole = c->unpack(&j, packed + k * room, packed_length[k], unpacked + k * count) && whole;
+    }
+    return whole;
+}
+
+static void check(result *r, const uint64_t *words, size_t count)
 {
     r->stands = IS_NOT_EXACT;
-    r->length = r->who->pack(j, packed, sizeof packed);
+    r->length = pack_all(r->who, words, count);
     memset(unpacked, 0xA5, sizeof unpacked);
-    if (r->length != 0 && r->who->unpack(j, packed, r->length, unpacked)
-        && memcmp(unpacked, j->words, 8 * j->count) == 0) {
+    if (r->length != 0 && unpack_all(r->who, words, count)
+        && memcmp(unpacked, words, sizeof unpacked) == 0) {
         r->stands = IS_EXACT;
     }
 }
 
-/* One call, or for a short input several calls, so that the clock's own time plays no part. */
-static double time_of(const result *r, const job *j, int packs)
-{
-    size_t calls = MOST_WORDS / j->count;
-    double start = now_ns();
-    for (size_t k = 0; k < calls; k++) {
-        if (packs) {
-            r->who->pack(j, packed, sizeof packed);
-        } else {
-            r->who->unpack(j, packed, r->length, unpacked);
-        }
-    }
-    return (now_ns() - start) / (double)calls;
-}
-
-static void take_turn(const result *r, const job *j, int packs, double *shortest)
+static void take_turn(const contender *c, const uint64_t *words, size_t count, int packs, double *shortest)
 {
     double spent = 0;
-    for (int k = 0; k < TURN_CALLS && spent < TURN_NS; k++) {
-        double taken = time_of(r, j, packs);
+    for (int k = 0; k < TURN_TIMES && spent < TURN_NS; k++) {
+        double start = now_ns();
+        if (packs) {
+            pack_all(c, words, count);
+        } else {
+            unpack_all(c, words, count);
+        }
+        double taken = now_ns() - start;
         spent += taken;
         if (*shortest == 0 || taken < *shortest) {
             *shortest = taken;
@@ -67,18 +89,16 @@ void measure(const contender *const *whom, size_t number, const uint64_t *words,
              result *results)
 {
     for (size_t i = 0; i < number; i++) {
-        job j = job_of(whom[i], words, count);
         results[i] = (result){ whom[i], IS_MISSING, 0, 0, 0 };
         if (whom[i]->pack != NULL) {
-            check(&results[i], &j);
+            check(&results[i], words, count);
         }
     }
     for (int round = 0; round < ROUNDS; round++) {
         for (size_t i = 0; i < number; i++) {
-            job j = job_of(whom[i], words, count);
             if (results[i].stands == IS_EXACT) {
-                take_turn(&results[i], &j, 1, &results[i].pack_ns);
-                take_turn(&results[i], &j, 0, &results[i].unpack_ns);
+                take_turn(whom[i], words, count, 1, &results[i].pack_ns);
+                take_turn(whom[i], words, count, 0, &results[i].unpack_ns);
             }
         }
     }

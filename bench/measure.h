@@ -9,12 +9,19 @@ typedef enum { IS_MISSING, IS_NOT_EXACT, IS_EXACT } standing;
 typedef struct {
     const contender *who;
     standing stands;
-    size_t length;         /* packed, in bytes */
-    double pack_ns;        /* the shortest time of one call */
+    size_t length;         /* of all pieces, packed, in bytes */
+    double pack_ns;        /* the shortest time for all pieces */
     double unpack_ns;
 } result;
 
-/* All contenders take turns, in rounds, so that each meets the same conditions. */
+/* Some contenders allocate in every call. Without this the C library hands large pieces back to the kernel
+ * each time, or not, by what ran before: their times would hang on the order of the contenders. To be called
+ * first. */
+void keep_memory(void);
+
+/* Cuts MOST_WORDS words into pieces of so many, each packed by a call of its own: so short and long calls are
+ * held against each other on the same words. All contenders take turns, in rounds, so that each meets the same
+ * conditions. */
 void measure(const contender *const *whom, size_t number, const uint64_t *words, size_t count,
              result *results);
 

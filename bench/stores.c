@@ -2,6 +2,7 @@
 #include "contender.h"
 #include "expert.h"
 #include "inputs.h"
+#include "stores.h"
 
 #include "../include/coil.h"
 #include "../tests/reference.h"
@@ -9,20 +10,15 @@
 #include <stdio.h>
 #include <string.h>
 
-typedef uint32_t pack_call(const uint64_t *, size_t, uint64_t *, size_t, uint64_t *, size_t,
-                           uint8_t *, size_t, size_t *);
-typedef uint32_t unpack_call(const uint8_t *, size_t, uint64_t *, size_t, uint64_t *, size_t,
-                             uint64_t *, size_t, size_t *);
-
 static uint64_t fcm[MOST_WORDS], dfcm[MOST_WORDS];
 
-static size_t pack_by(pack_call *call, const job *j, uint8_t *out, size_t room)
+size_t pack_by(pack_call *call, const job *j, uint8_t *out, size_t room)
 {
     size_t entries = (size_t)1 << j->t, length = 0;
     return call(j->words, j->count, fcm, entries, dfcm, entries, out, room, &length) == 0 ? length : 0;
 }
 
-static int unpack_by(unpack_call *call, const job *j, const uint8_t *packed, size_t length, uint64_t *words)
+int unpack_by(unpack_call *call, const job *j, const uint8_t *packed, size_t length, uint64_t *words)
 {
     size_t entries = (size_t)1 << j->t, count = 0;
     uint32_t number = call(packed, length, fcm, entries, dfcm, entries, words, j->count, &count);

@@ -1,9 +1,9 @@
 /* See table.h. */
 #include "table.h"
 
-static double fraction(const sheet *s, const result *r)
+static double fraction(const result *r)
 {
-    return (double)r->length / (8.0 * (double)s->count);
+    return (double)r->length / (8.0 * MOST_WORDS);
 }
 
 /* Small sizes need more digits: all zeros pack to less than a thousandth. */
@@ -22,13 +22,12 @@ static void write_ratio(FILE *to, double ratio)
 /* Three results in a row: the store, the independent C, the expert C. */
 static void write_same_rules_row(FILE *to, const sheet *s, const result *three)
 {
-    double words = (double)s->count;
     fprintf(to, "| %s | %zu | %u |", s->in->name, s->count, three[0].who->t);
-    write_fraction(to, fraction(s, &three[0]));
-    fprintf(to, " %.1f |", three[0].pack_ns / words);
+    write_fraction(to, fraction(&three[0]));
+    fprintf(to, " %.2f |", three[0].pack_ns / MOST_WORDS);
     write_ratio(to, three[1].pack_ns / three[0].pack_ns);
     write_ratio(to, three[2].pack_ns / three[0].pack_ns);
-    fprintf(to, " %.1f |", three[0].unpack_ns / words);
+    fprintf(to, " %.2f |", three[0].unpack_ns / MOST_WORDS);
     write_ratio(to, three[1].unpack_ns / three[0].unpack_ns);
     write_ratio(to, three[2].unpack_ns / three[0].unpack_ns);
     fprintf(to, "\n");
@@ -38,7 +37,8 @@ void write_same_rules(FILE *to, const sheet *sheets, size_t number)
 {
     fprintf(to, "### Against C for the same rules\n\n");
     fprintf(to, "Times as ratios to the store's: below 1 is faster than the store. Size as a part of the\n"
-                "raw bytes, the same for all three.\n\n");
+                "raw bytes, the same for all three. All rows of an input have the same 65,536 words; \"words\" is how\n"
+                "many a call packs.\n\n");
     fprintf(to, "| input | words | t | size | pack: store, ns a word | independent C | expert C "
                 "| unpack: store, ns a word | independent C | expert C |\n");
     fprintf(to, "|---|--:|--:|--:|--:|--:|--:|--:|--:|--:|\n");
@@ -60,7 +60,7 @@ static void write_general_row(FILE *to, const sheet *s, const result *r)
         fprintf(to, "| %s |", r->who->name);
     }
     if (r->stands == IS_EXACT) {
-        write_fraction(to, fraction(s, r));
+        write_fraction(to, fraction(r));
         write_ratio(to, r->pack_ns / t10->pack_ns);
         write_ratio(to, r->pack_ns / t16->pack_ns);
         write_ratio(to, r->unpack_ns / t10->unpack_ns);

@@ -15,9 +15,9 @@
  * WHAT YOU LEND
  *
  * Every pointer is lent for the time of the call only. The library allocates nothing, prints nothing
- * and keeps nothing between calls: no pointer, no table, no setting. It takes less than 1 KB of stack. It
- * has no global state. Two
- * threads may call at once as long as neither writes into memory that the other uses.
+ * and keeps nothing between calls: no pointer, no table, no setting. It takes less than 1,024 bytes of
+ * stack. It has no global state. Two threads may call at once as long as neither writes into memory
+ * that the other uses.
  *
  * The C side is checked by nothing. These four rules are yours to keep, and breaking one is undefined:
  *

@@ -3,14 +3,12 @@
  */
 #define _DEFAULT_SOURCE
 #include "coil.h"
+#include "large_file.h"
 
 #include <stdio.h>
 #include <string.h>
 #include <sys/mman.h>
 #include <unistd.h>
-
-enum { TRAILER = 32, ENTRY = 12 };
-#define EXAM UINT64_C(77)
 
 static unsigned passed, failed;
 
@@ -22,31 +20,6 @@ static void is(const char *what, size_t value, size_t expected)
         failed++;
         printf("FAILED %s: %zu, not %zu\n", what, value, expected);
     }
-}
-
-static void put(uint8_t *at, unsigned bytes, uint64_t value)
-{
-    for (unsigned i = 0; i < bytes; i++)
-        at[i] = (uint8_t)(value >> (8 * i));
-}
-
-/* Writes the directory and the trailer of a file of that length, whose entries share all the bytes before. */
-static void lay_out(uint8_t *file, size_t length, size_t entries)
-{
-    size_t start = length - TRAILER - ENTRY * entries;
-    uint8_t *entry = file + start, *trailer = file + length - TRAILER;
-    for (size_t i = 0; i < entries; i++, entry += ENTRY) {
-        size_t offset = start / entries * i;
-        size_t end = i + 1 == entries ? start : start / entries * (i + 1);
-        put(entry, 4, 10 * i);
-        put(entry + 4, 4, offset);
-        put(entry + 8, 4, end - offset);
-    }
-    memcpy(trailer, "coil\1\0\0\0", 8);
-    put(trailer + 8, 8, EXAM);
-    put(trailer + 16, 4, TRAILER + ENTRY * entries);
-    put(trailer + 20, 4, entries);
-    put(trailer + 24, 8, length);
 }
 
 /* Takes away all pages before the one in which the directory starts. */

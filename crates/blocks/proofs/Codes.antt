@@ -2,7 +2,7 @@
 use mathlib.Core.Path.{_≡_, refl, sym, ap, _∙_}
 use mathlib.Core.Bool.{Bool, true, false, cond}
 use mathlib.Core.List.{[], _∷_}
-use Prim.Native.Nat.{ℕ, zero, suc, min, _+_, _-_, _%_, _^_, _≤_, _<_}
+use Prim.Native.Nat.{ℕ, zero, suc, min, _+_, _-_, _/_, _%_, _^_, _≤_, _<_}
 use native.Mathlib.Omega.{arith}
 use native.Mathlib.Nat.{lt-of-lt-of-le, zero-add}
 use lib.Dec.{ltb}
@@ -10,63 +10,54 @@ use lib.ListN.{getD}
 use borrow.Author.Tests.{ltb-true, ltb-false, lt-ltb, le-ltb}
 use Rattle.words.specs.Words.{zeroBytes}
 use Rattle.words.proofs.Tests.{either}
-use Rattle.words.proofs.Zeros.{zeros-at-most, zeros-within, zeros-above, zeros-fall, pow-256-le}
+use Rattle.words.proofs.Zeros.{zeros-at-most, zeros-within, zeros-above, zeros-some, zeros-fall, pow-256-le}
 use Rattle.blocks.specs.Predictors.{Memory}
 use Rattle.blocks.specs.Codes.{dfcmChosen, lowThree, written, codedBy, chosen, codedWord, fcmResidual, dfcmResidual}
 use Rattle.blocks.specs.declared.Coded.{Coded}
 
--- ---- the table
+-- ---- the tables
 
-pub low-three-below : (z : ℕ) → z < 4 → z ≡ lowThree z
+-- the first table, without a branch
+pub low-three-is : (z : ℕ) → z ≤ 7 → lowThree z + z / 4 ≡ z
 unfolding lowThree
-low-three-below zero h = refl
-low-three-below (suc zero) h = refl
-low-three-below (suc (suc zero)) h = refl
-low-three-below (suc (suc (suc zero))) h = refl
-low-three-below (suc (suc (suc (suc z)))) h = absurd (omega arith)
+low-three-is zero h = refl
+low-three-is (suc zero) h = refl
+low-three-is (suc (suc zero)) h = refl
+low-three-is (suc (suc (suc zero))) h = refl
+low-three-is (suc (suc (suc (suc zero)))) h = refl
+low-three-is (suc (suc (suc (suc (suc zero))))) h = refl
+low-three-is (suc (suc (suc (suc (suc (suc zero)))))) h = refl
+low-three-is (suc (suc (suc (suc (suc (suc (suc zero))))))) h = refl
+low-three-is (suc (suc (suc (suc (suc (suc (suc (suc z)))))))) h = absurd (omega arith)
 
-pub low-three-above : (z : ℕ) → 4 ≤ z → z ≤ 8 → z - 1 ≡ lowThree z
+-- a residual of 0
+pub low-three-of-zero : (z : ℕ) → z ≡ 8 → lowThree z ≡ 7
 unfolding lowThree
-low-three-above z h l = above (z - 4) z (omega arith) (omega arith)
-  where
-    above : (k z : ℕ) → k ≤ 4 → z ≡ 4 + k → z - 1 ≡ getD (0 ∷ 1 ∷ 2 ∷ 3 ∷ 3 ∷ 4 ∷ 5 ∷ 6 ∷ 7 ∷ []) z 0
-    above zero z h e = rw e
-    above (suc zero) z h e = rw e
-    above (suc (suc zero)) z h e = rw e
-    above (suc (suc (suc zero))) z h e = rw e
-    above (suc (suc (suc (suc zero)))) z h e = rw e
-    above (suc (suc (suc (suc (suc k))))) z h e = absurd (omega arith)
+low-three-of-zero z e = rw e
 
 pub low-three-small : (z : ℕ) → z ≤ 8 → lowThree z ≤ 7
 low-three-small z h =
-    either (ltb z 4) (λ e. omega (arith, ltb-true z 4 e, low-three-below z (ltb-true z 4 e)))
-    (λ e. omega (arith, low-three-above z (ltb-false z 4 e) h))
+    either (ltb z 8) (λ e. let l = ltb-true z 8 e in omega (arith, low-three-is z (omega arith)))
+    (λ e. let l = ltb-false z 8 e in omega (arith, low-three-of-zero z (omega arith)))
 
-pub written-below : (c : ℕ) → c % 8 < 4 → 8 - c % 8 ≡ written c
+-- and the second
+pub written-is : (c : ℕ) → written c + c % 8 + c % 8 / 4 ≡ 8
 unfolding written
-written-below c h = below (c % 8) h
+written-is c = counted (c % 8) (omega arith)
   where
-    below : (l : ℕ) → l < 4 → 8 - l ≡ getD (8 ∷ 7 ∷ 6 ∷ 5 ∷ 3 ∷ 2 ∷ 1 ∷ 0 ∷ []) l 0
-    below zero h = refl
-    below (suc zero) h = refl
-    below (suc (suc zero)) h = refl
-    below (suc (suc (suc zero))) h = refl
-    below (suc (suc (suc (suc l)))) h = absurd (omega arith)
-
-pub written-above : (c : ℕ) → 4 ≤ c % 8 → 7 - c % 8 ≡ written c
-unfolding written
-written-above c h = above (c % 8 - 4) (c % 8) (omega arith) (omega arith)
-  where
-    above : (k l : ℕ) → k ≤ 3 → l ≡ 4 + k → 7 - l ≡ getD (8 ∷ 7 ∷ 6 ∷ 5 ∷ 3 ∷ 2 ∷ 1 ∷ 0 ∷ []) l 0
-    above zero l h e = rw e
-    above (suc zero) l h e = rw e
-    above (suc (suc zero)) l h e = rw e
-    above (suc (suc (suc zero))) l h e = rw e
-    above (suc (suc (suc (suc k)))) l h e = absurd (omega arith)
+    counted : (l : ℕ) → l ≤ 7 → getD (8 ∷ 7 ∷ 6 ∷ 5 ∷ 3 ∷ 2 ∷ 1 ∷ 0 ∷ []) l 0 + l + l / 4 ≡ 8
+    counted zero h = refl
+    counted (suc zero) h = refl
+    counted (suc (suc zero)) h = refl
+    counted (suc (suc (suc zero))) h = refl
+    counted (suc (suc (suc (suc zero)))) h = refl
+    counted (suc (suc (suc (suc (suc zero))))) h = refl
+    counted (suc (suc (suc (suc (suc (suc zero)))))) h = refl
+    counted (suc (suc (suc (suc (suc (suc (suc zero))))))) h = refl
+    counted (suc (suc (suc (suc (suc (suc (suc (suc l)))))))) h = absurd (omega arith)
 
 pub written-small : (c : ℕ) → written c ≤ 8
-written-small c =
-    either (ltb (c % 8) 4) (λ e. omega (arith, written-below c (ltb-true _ 4 e))) (λ e. omega (arith, written-above c (ltb-false _ 4 e)))
+written-small c = omega (arith, written-is c)
 
 -- ---- a residual with its code
 
@@ -137,6 +128,10 @@ module _ (f d z l top res : ℕ) (b : Bool) (p : z ≡ zeroBytes (min f d)) (q :
   pub chosen-of-lesser : record { code = top + l; residual = res } ≡ chosen f d
   chosen-of-lesser = either b by-dfcm by-fcm
 
+-- of two residuals that aren't zero, the lesser has a byte that isn't
+pub lesser-some : (f d : ℕ) → 0 < f → 0 < d → f < 2 ^ 64 → zeroBytes (min f d) ≤ 7
+lesser-some f d a b h = zeros-some (min f d) (omega arith) (omega arith)
+
 -- where neither top byte is zero, fcm is chosen and everything is written
 pub chosen-whole : (f d : ℕ) → 72057594037927936 ≤ min f d → f < 2 ^ 64 → d < 2 ^ 64 → record { code = 0; residual = f } ≡ chosen f d
 unfolding dfcmChosen codedBy lowThree
@@ -154,17 +149,11 @@ coded-small m v =
 
 written-of-zeros : (z : ℕ) → z ≤ 8 → 8 - z ≤ written (lowThree z)
 written-of-zeros z h =
-    either (ltb z 4)
+    either (ltb z 8)
     (λ e.
-    let b = ltb-true z 4 e in
-    let l = low-three-below z b in
-    omega (arith, written-below (lowThree z) (omega arith)))
-    (λ e.
-    let a = ltb-false z 4 e in
-    let l = low-three-above z a h in
-    either (ltb (lowThree z) 4)
-    (λ f. omega (arith, ltb-true (lowThree z) 4 f, written-below (lowThree z) (omega (arith, ltb-true (lowThree z) 4 f))))
-    (λ f. omega (arith, written-above (lowThree z) (omega (arith, ltb-false (lowThree z) 4 f)))))
+    let l = ltb-true z 8 e in
+    omega (arith, low-three-is z (omega arith), written-is (lowThree z)))
+    (λ e. let l = ltb-false z 8 e in omega arith)
 
 -- a residual fits the bytes that its code writes
 pub coded-by-fits : (b : Bool) (r : ℕ) → r < 2 ^ 64 → codedBy b r .residual < 256 ^ written (codedBy b r .code)

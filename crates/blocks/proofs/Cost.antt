@@ -1,6 +1,6 @@
 -- What a word costs: no code and residual that read as the word cost less than those taken. Of the choice this knows only its two laws.
 use mathlib.Core.Path.{_≡_, refl, _∙_, subst}
-use Prim.Native.Nat.{ℕ, _-_, _%_, max, _^_, _≤_, _<_}
+use Prim.Native.Nat.{ℕ, _+_, _-_, _/_, _%_, max, _^_, _≤_, _<_}
 use native.Mathlib.Omega.{arith}
 use native.Mathlib.Nat.{zero-add, one-le-pow, lt-of-lt-of-le}
 use lib.Dec.{ltb}
@@ -12,28 +12,27 @@ use Rattle.words.proofs.Zeros.{zeros-at-most, zeros-of-fit, pow-256-le}
 use Rattle.blocks.specs.Predictors.{Memory, fcmPrediction, dfcmPrediction}
 use Rattle.blocks.specs.Codes.{fcmResidual, dfcmResidual, dfcmChosen, lowThree, written, codedBy, chosen, codedWord, namedPrediction, decodedWord}
 use Rattle.blocks.specs.declared.Coded.{Coded}
-use Rattle.blocks.proofs.Codes.{low-three-below, low-three-above, written-below, written-above, written-small, top-bit-costs-nothing, dfcm-taken, fcm-taken}
-
--- no code writes four bytes
-not-four : (c : ℕ) → written c ≡ 4 → ⊥
-not-four c e =
-    either (ltb (c % 8) 4) (λ l. let b = ltb-true (c % 8) 4 l in omega (arith, written-below c b))
-    (λ l. let a = ltb-false (c % 8) 4 l in omega (arith, written-above c a))
+use Rattle.blocks.proofs.Codes.{low-three-is, low-three-of-zero, written-is, written-small, top-bit-costs-nothing, dfcm-taken, fcm-taken}
 
 -- of the codes that write enough for z zero bytes, the code made for z writes least
 least-enough : (z c : ℕ) → z ≤ 8 → 8 - z ≤ written c → written (lowThree z) ≤ written c
 least-enough z c h l =
-    either (ltb z 4)
+    either (ltb z 8)
     (λ e.
-    let b = ltb-true z 4 e in
-    let k = low-three-below z b in
-    omega (arith, written-below (lowThree z) (omega arith)))
-    (λ e.
-    let a = ltb-false z 4 e in
-    let k = low-three-above z a h in
-    either (ltb 4 z)
-    (λ f. let b = ltb-true 4 z f in omega (arith, written-above (lowThree z) (omega arith)))
-    (λ f. let b = ltb-false 4 z f in omega (arith, not-four c, written-below (lowThree z) (omega arith))))
+    let some : z ≤ 7 = omega (arith, ltb-true z 8 e) in
+    let b = low-three-is z some in
+    let s : lowThree z % 8 ≡ lowThree z = whole _ z some b in
+    fewer-bytes (c % 8) (lowThree z) _ _ (no-higher (c % 8) (lowThree z) z some b (omega (arith, written-is c))) (rw s at (written-is (lowThree z))) (written-is c))
+    (λ e. omega (arith, low-three-of-zero z (omega (arith, ltb-false z 8 e)), written-is (lowThree z)))
+  where
+    whole : (k z : ℕ) → z ≤ 7 → k + z / 4 ≡ z → k % 8 ≡ k
+    whole k z h e = omega arith
+
+    no-higher : (l k z : ℕ) → z ≤ 7 → k + z / 4 ≡ z → l + l / 4 ≤ z → l ≤ k
+    no-higher l k z h e n = omega arith
+
+    fewer-bytes : (l k v w : ℕ) → l ≤ k → v + k + k / 4 ≡ 8 → w + l + l / 4 ≡ 8 → v ≤ w
+    fewer-bytes l k v w m p q = omega arith
 
 -- so the one taken costs no more than any code that writes enough for either residual
 taken-least : (f d c : ℕ) → 8 - max (zeroBytes f) (zeroBytes d) ≤ written c → written (chosen f d .code) ≤ written c

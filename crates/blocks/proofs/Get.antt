@@ -19,7 +19,7 @@ use Rattle.blocks.specs.Block.{count, halves, countedCodes, lastHalf, re
 use Rattle.blocks.specs.Numbers.{fillerStands}
 use Rattle.blocks.specs.Inside.{Counted}
 use Rattle.blocks.specs.declared.Coded.{Coded}
-use Rattle.blocks.proofs.Codes.{written-below, written-above, written-small}
+use Rattle.blocks.proofs.Codes.{written-is, written-small}
 
 -- ---- halves
 
@@ -92,11 +92,6 @@ length-decoded t m [] = refl
 length-decoded t m (c ∷ cs) = ap suc (length-decoded t (learn t m (decodedWord m c)) cs)
 
 -- ---- their residual bytes, added up one code byte a turn
-
--- the table without a branch
-written-is : (c : ℕ) → written c + c % 8 + c % 8 / 4 ≡ 8
-written-is c =
-    either (ltb (c % 8) 4) (λ e. let h = ltb-true (c % 8) 4 e in omega (arith, written-below c h)) (λ e. let h = ltb-false (c % 8) 4 e in omega (arith, written-above c h))
 
 pub both-written : (byte : ℕ) → 16 - byte / 16 % 8 - byte / 16 % 8 / 4 - byte % 8 - byte % 8 / 4 ≡ written (byte / 16) + written (byte % 16)
 both-written byte =

@@ -1,7 +1,8 @@
-// The choice between the two residuals, and the code of the chosen one.
+// The choice between the two residuals, and the code of the chosen one. Words are held against rungs:
+// 1099511627776 is 256^5, 281474976710656 is 256^6, 72057594037927936 is 256^7.
 ghost use mathlib.Core.Path.{_≡_};
 ghost use mathlib.Core.Bool.{cond};
-ghost use Prim.Native.Nat.{min, _≤_, _<_};
+ghost use Prim.Native.Nat.{min, _-_, _^_, _≤_, _<_};
 ghost use lib.Dec.{ltb};
 ghost use Rattle.words.specs.Words.{zeroBytes};
 ghost use Rattle.blocks.specs.Codes.{lowThree, written, chosen};
@@ -14,24 +15,22 @@ fn top_bit(dfcm: bool) -> u8
     if dfcm { 8 } else { 0 }
 }
 
-// The low three bits of a code, from the leading zero bytes. Four zero bytes are coded as three.
+// The low three bits of a code, from the leading zero bytes: from four on one less, since four are
+// coded as three.
 fn low_three(zero_bytes: u8) -> u8
-    requires { ⌜ «zero_bytes» ≤ 8 ⌝ }
+    requires { ⌜ «zero_bytes» ≤ 7 ⌝ }
     ensures { λ r. ⌜ r ≡ lowThree «zero_bytes» ⌝ }
 {
-    if zero_bytes < 4 {
-        zero_bytes
-    } else {
-        zero_bytes - 1
-    }
+    zero_bytes - zero_bytes / 4
 }
 
-// How many residual bytes are written for a code.
+// How many residual bytes are written for a code: from low bits 4 on one less, since no code writes
+// four.
 pub fn written(code: u8) -> usize
     ensures { λ r. ⌜ r ≡ written code ⌝ }
 {
     let low = (code % 8) as usize;
-    if low < 4 { 8 - low } else { 7 - low }
+    8 - low - low / 4
 }
 
 // The lesser of two residuals. It has the more leading zero bytes, or as many.
@@ -56,8 +55,33 @@ fn picked(dfcm: bool, by_fcm: u64, by_dfcm: u64) -> u64
     if dfcm { by_dfcm } else { by_fcm }
 }
 
+// The lowest word with fewer leading zero bytes than one that has one or two of them.
+fn rung_above(least: u64) -> u64
+    requires { ⌜ (1099511627776 ≤ least) × (least < 72057594037927936) ⌝ }
+    ensures { λ r. ⌜ r ≡ 256 ^ (8 - zeroBytes least) ⌝ }
+{
+    if least < 281474976710656 {
+        281474976710656
+    } else {
+        72057594037927936
+    }
+}
+
+// The chosen residual with its code, once it is known how many leading zero bytes the lesser one has,
+// and whether fcm has fewer.
+fn coded(dfcm: bool, zeros: u8, by_fcm: u64, by_dfcm: u64) -> Coded
+    requires { ⌜ (zeros ≤ 7) × (zeros ≡ zeroBytes (min «by_fcm» «by_dfcm»)) × (dfcm ≡ ltb (zeroBytes «by_fcm») zeros) ⌝ }
+    ensures { λ r. ⌜ r ≡ chosen «by_fcm» «by_dfcm» ⌝ }
+{
+    Coded {
+        code: top_bit(dfcm) + low_three(zeros),
+        residual: picked(dfcm, by_fcm, by_dfcm),
+    }
+}
+
 // Of two residuals, neither of them 0, the chosen one with its code. The ladder is climbed once, for
-// the lesser, and not at all where no top byte is zero.
+// the lesser. Words of noise have no zero byte and most unforeseen words of a map one or two, so these
+// go their own short ways.
 pub fn chosen(by_fcm: u64, by_dfcm: u64) -> Coded
     requires { ⌜ (0 < «by_fcm») × (0 < «by_dfcm») ⌝ }
     ensures { λ r. ⌜ r ≡ chosen «by_fcm» «by_dfcm» ⌝ }
@@ -69,10 +93,10 @@ pub fn chosen(by_fcm: u64, by_dfcm: u64) -> Coded
             residual: by_fcm,
         };
     }
-    let zeros = words::zero_bytes(least);
-    let dfcm = has_fewer(by_fcm, zeros);
-    Coded {
-        code: top_bit(dfcm) + low_three(zeros),
-        residual: picked(dfcm, by_fcm, by_dfcm),
+    if 1099511627776 <= least {
+        let few = 1 + words::under(least, 281474976710656);
+        return coded(rung_above(least) <= by_fcm, few, by_fcm, by_dfcm);
     }
+    let zeros = words::zero_bytes(least);
+    coded(has_fewer(by_fcm, zeros), zeros, by_fcm, by_dfcm)
 }

@@ -1,12 +1,13 @@
 -- Leading zero bytes. Nothing else opens `zeroBytes`.
 use mathlib.Core.Path.{_≡_, refl, sym, ap, _∙_}
+use mathlib.Core.Bool.{cond}
 use Prim.Native.Nat.{ℕ, zero, suc, _+_, _-_, _*_, _/_, _^_, _≤_, _<_}
 use native.Mathlib.Omega.{arith}
 use native.Mathlib.Nat.{lt-of-not-le, not-le-of-lt, lt-of-le-of-lt, lt-of-lt-of-le, le-trans, pow-suc, pow-le-pow-right, mul-comm, le-div-iff-mul-le, div-lt-iff-lt-mul}
 use lib.Pow.{pow-mono, pow-add}
 use lib.Count.{leadingZeros, leading-le, leading-top, leading-length, leading-of-zero}
-use lib.Dec.{ltb}
-use borrow.Author.Tests.{ltb-true, ltb-false, lt-ltb, le-ltb}
+use lib.Dec.{ltb, leb}
+use borrow.Author.Tests.{ltb-true, ltb-false, leb-true, leb-false, lt-ltb, le-ltb}
 use Rattle.words.specs.Words.{zeroBytes}
 use Rattle.words.proofs.Tests.{either}
 
@@ -60,6 +61,29 @@ zeros-above k r l h u =
     let b : k < 8 - zeroBytes r = pow-256-lt k _ (lt-of-le-of-lt h (zeros-within r w)) in
     omega arith
 
+-- the word whose highest byte that isn't zero is byte k or the next
+pub zeros-between : (k r : ℕ) → k ≤ 6 → 256 ^ k ≤ r → r < 256 ^ (k + 1 + 1) → 6 - k + cond (ltb r (256 ^ (k + 1))) 1 0 ≡ zeroBytes r
+zeros-between k r l h u =
+    either (ltb r (256 ^ (k + 1))) (λ e. rw e (omega (arith, zeros-above k r (omega arith) h (ltb-true r _ e))))
+    (λ e. rw e (omega (arith, zeros-above (k + 1) r (omega arith) (ltb-false r _ e) u)))
+
+-- how many of the rungs 256 ^ 0 to 256 ^ (k - 1) a word is under
+abbrev pub rungs : ℕ → ℕ → ℕ
+rungs r zero = 0
+rungs r (suc k) = rungs r k + cond (ltb r (256 ^ k)) 1 0
+
+rungs-are-zeros : (r k : ℕ) → r < 2 ^ 64 → k ≤ 8 → rungs r k ≡ zeroBytes r - (8 - k)
+rungs-are-zeros r zero h l = omega (arith, zeros-at-most r)
+rungs-are-zeros r (suc k) h l =
+    let below : rungs r k ≡ zeroBytes r - (8 - k) = rungs-are-zeros r k h (omega arith) in
+    either (ltb r (256 ^ k))
+    (λ e. rw e (omega (arith, below, zeros-of-fit r k h (ltb-true r (256 ^ k) e))))
+    (λ e. rw e (omega (arith, below, pow-256-lt k _ (lt-of-le-of-lt (ltb-false r (256 ^ k) e) (zeros-within r h)))))
+
+-- the leading zero bytes of a word, counted on all eight rungs
+pub zeros-by-rungs : (r : ℕ) → r < 2 ^ 64 → zeroBytes r ≡ rungs r 8
+zeros-by-rungs r h = omega (arith, rungs-are-zeros r 8 h (omega arith))
+
 -- a word that isn't zero has a byte that isn't
 pub zeros-some : (r : ℕ) → r < 2 ^ 64 → 0 < r → zeroBytes r ≤ 7
 zeros-some r h p =
@@ -72,20 +96,21 @@ zeros-some r h p =
 pub zeros-fall : (a b : ℕ) → a ≤ b → b < 2 ^ 64 → zeroBytes b ≤ zeroBytes a
 zeros-fall a b l h = omega (arith, zeros-of-fit a (8 - zeroBytes b) (omega arith) (lt-of-le-of-lt l (zeros-within b h)), zeros-at-most b)
 
--- fewer than z leading zero bytes, seen by one shift
-pub zeros-fewer : (r z : ℕ) → z ≤ 7 → r < 2 ^ 64 → ltb 255 (r / 2 ^ (56 - 8 * z)) ≡ ltb (zeroBytes r) z
+-- fewer than z leading zero bytes: the word reaches the rung above those that have z
+pub zeros-fewer : (r z : ℕ) → z ≤ 8 → r < 2 ^ 64 → leb (256 ^ (8 - z)) r ≡ ltb (zeroBytes r) z
 zeros-fewer r z l h =
+    either (leb (256 ^ (8 - z)) r)
+    (λ e. e ∙ sym (lt-ltb (zeroBytes r) z (omega (arith, pow-256-lt (8 - z) _ (lt-of-le-of-lt (leb-true _ r e) (zeros-within r h))))))
+    (λ e. e ∙ sym (le-ltb (zeroBytes r) z (omega (arith, zeros-of-fit r (8 - z) h (leb-false _ r e)))))
+
+-- the same, seen by one shift
+pub zeros-shifted : (r z : ℕ) → z ≤ 7 → r < 2 ^ 64 → ltb 255 (r / 2 ^ (56 - 8 * z)) ≡ ltb (zeroBytes r) z
+zeros-shifted r z l h =
     let s : 56 - 8 * z ≡ 8 * (7 - z) = omega arith in
     let n : 8 - z ≡ suc (7 - z) = omega arith in
     let p : 256 ^ (8 - z) ≡ 256 * 256 ^ (7 - z) = ap (λ (k : ℕ). 256 ^ k) n ∙ pow-suc 256 (7 - z) ∙ mul-comm _ _ in
     let d : 0 < 256 ^ (7 - z) = pow-256-le {a = 0} {b = 7 - z} (omega arith) in
     rw (s, ← (pow-256 (7 - z)))
-    (either (ltb (zeroBytes r) z)
-    (λ e.
-    let g : 256 ^ (8 - z) ≤ r =
-    either (ltb r (256 ^ (8 - z))) (λ q. absurd (omega (arith, ltb-true (zeroBytes r) z e, zeros-of-fit r (8 - z) h (ltb-true r (256 ^ (8 - z)) q))))
-    (λ q. ltb-false r (256 ^ (8 - z)) q) in
-    lt-ltb 255 (r / 256 ^ (7 - z)) (omega (arith, le-div-iff-mul-le {x = 256} {y = r} d .1 (rw p at g))) ∙ sym e)
-    (λ e.
-    let g : r < 256 ^ (8 - z) = lt-of-lt-of-le (zeros-within r h) (pow-256-le (omega (arith, ltb-false (zeroBytes r) z e))) in
-    le-ltb 255 (r / 256 ^ (7 - z)) (omega (arith, div-lt-iff-lt-mul {x = r} {y = 256} d .1 (rw p at g))) ∙ sym e))
+    (either (leb (256 ^ (8 - z)) r) (λ e. lt-ltb 255 (r / 256 ^ (7 - z)) (omega (arith, le-div-iff-mul-le {x = 256} {y = r} d .1 (rw p at (leb-true _ r e)))) ∙ sym e)
+    (λ e. le-ltb 255 (r / 256 ^ (7 - z)) (omega (arith, div-lt-iff-lt-mul {x = r} {y = 256} d .1 (rw p at (leb-false _ r e)))) ∙ sym e)
+    ∙ zeros-fewer r z (omega arith) h)

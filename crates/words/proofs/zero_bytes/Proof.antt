@@ -1,46 +1,82 @@
-use mathlib.Core.Path.{sym}
 use native.Mathlib.Omega.{arith}
-use Rattle.words.proofs.Zeros.{zeros-above, zeros-of-zero}
+use Rattle.words.proofs.Zeros.{zeros-by-rungs}
+use borrow.Author.Needs.{needs}
 use Rattle.words.proofs.zero_bytes.Statement.{statement}
 use Rattle.words.proofs.zero_bytes.Tie as tie
 
+under-requires : tie.Need-under-requires
+under-requires c κs = search needs
+
+under-requires-2 : tie.Need-under-requires-2
+under-requires-2 c κs = search needs
+
+add-result : tie.Need-add-result
+add-result c = search needs
+
+under-requires-3 : tie.Need-under-requires-3
+under-requires-3 c κs = search needs
+
+add-result-2 : tie.Need-add-result-2
+add-result-2 c = search needs
+
+under-requires-4 : tie.Need-under-requires-4
+under-requires-4 c κs = search needs
+
+add-result-3 : tie.Need-add-result-3
+add-result-3 c = search needs
+
+under-requires-5 : tie.Need-under-requires-5
+under-requires-5 c κs = search needs
+
+add-result-4 : tie.Need-add-result-4
+add-result-4 c = search needs
+
+under-requires-6 : tie.Need-under-requires-6
+under-requires-6 c κs = search needs
+
+add-result-5 : tie.Need-add-result-5
+add-result-5 c = search needs
+
+under-requires-7 : tie.Need-under-requires-7
+under-requires-7 c κs = search needs
+
+add-result-6 : tie.Need-add-result-6
+add-result-6 c = search needs
+
+under-requires-8 : tie.Need-under-requires-8
+under-requires-8 c κs = search needs
+
+add-result-7 : tie.Need-add-result-7
+add-result-7 c = search needs
+
 returns : tie.Need-returns
-returns c = sym (zeros-of-zero _ (omega arith))
-
-returns-2 : tie.Need-returns-2
-returns-2 c = zeros-above 0 _ (omega arith) (c .if4 .left) (c .before .if3 .taken)
-
-returns-3 : tie.Need-returns-3
-returns-3 c = zeros-above 1 _ (omega arith) (c .if3 .left) (c .before .if2 .taken)
-
-returns-4 : tie.Need-returns-4
-returns-4 c = zeros-above 2 _ (omega arith) (c .before .if2 .left) (c .if5 .taken)
-
-returns-5 : tie.Need-returns-5
-returns-5 c = zeros-above 3 _ (omega arith) (c .if5 .left) (c .before .before .if1 .taken)
-
-returns-6 : tie.Need-returns-6
-returns-6 c = zeros-above 4 _ (omega arith) (c .before .before .if1 .left) (c .if7 .taken)
-
-returns-7 : tie.Need-returns-7
-returns-7 c = zeros-above 5 _ (omega arith) (c .if7 .left) (c .before .if6 .taken)
-
-returns-8 : tie.Need-returns-8
-returns-8 c = zeros-above 6 _ (omega arith) (c .before .if6 .left) (c .if8 .taken)
-
-returns-9 : tie.Need-returns-9
-returns-9 c = zeros-above 7 _ (omega arith) (c .if8 .left) (c .before .before .before .fits .r .fits)
+returns c =
+    let r7 = c .before in
+    let r6 = r7 .before in
+    let r5 = r6 .before in
+    let r4 = r5 .before in
+    let r3 = r4 .before in
+    let r2 = r3 .before in
+    let r1 = r2 .before in
+    omega (arith, c .under8 .ensures .0, r7 .under7 .ensures .0, r6 .under6 .ensures .0, r5 .under5 .ensures .0, r4 .under4 .ensures .0, r3 .under3 .ensures .0, r2 .under2 .ensures .0, r1 .under .ensures .0, zeros-by-rungs (r1 .before .args .r) (omega arith))
 
 pub zero-bytes-spec : {M : Type 1} → statement M
 zero-bytes-spec =
     tie.close
     (tie.spec
-    returns
-    returns-2
-    returns-3
-    returns-4
-    returns-5
-    returns-6
-    returns-7
-    returns-8
-    returns-9)
+    under-requires
+    under-requires-2
+    add-result
+    under-requires-3
+    add-result-2
+    under-requires-4
+    add-result-3
+    under-requires-5
+    add-result-4
+    under-requires-6
+    add-result-5
+    under-requires-7
+    add-result-6
+    under-requires-8
+    add-result-7
+    returns)

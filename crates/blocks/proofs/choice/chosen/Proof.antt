@@ -1,9 +1,9 @@
 use mathlib.Core.Path.{_≡_, ap, _∙_}
-use Prim.Native.Nat.{min}
+use Prim.Native.Nat.{_+_}
 use native.Mathlib.Omega.{arith}
 use Rattle.words.specs.Words.{zeroBytes}
-use Rattle.words.proofs.Zeros.{zeros-at-most, zeros-some}
-use Rattle.blocks.proofs.Codes.{coded-fits, chosen-of-lesser, chosen-whole}
+use Rattle.words.proofs.Zeros.{zeros-at-most, zeros-between, zeros-fewer}
+use Rattle.blocks.proofs.Codes.{chosen-whole, lesser-some}
 use borrow.Author.Needs.{needs}
 use Rattle.blocks.proofs.choice.chosen.Statement.{statement}
 use Rattle.blocks.proofs.choice.chosen.Tie as tie
@@ -16,44 +16,50 @@ returns c =
     let entry = c .before .before in
     chosen-whole (entry .args .by-fcm) (entry .args .by-dfcm) (omega (arith, c .before .lesser .ensures, c .if1 .taken)) (omega arith) (omega arith)
 
+under-requires : tie.Need-under-requires
+under-requires c κs = search needs
+
+add-few : tie.Need-add-few
+add-few c = search needs
+
+rung-above-requires : tie.Need-rung-above-requires
+rung-above-requires c κs =
+    let at-few = c .before in
+    (at-few .if2 .taken, at-few .before .if1 .left)
+
+coded-requires : tie.Need-coded-requires
+coded-requires c κs =
+    let at-under = c .before in
+    let at-few = at-under .before in
+    let at-whole = at-few .before in
+    let at-lesser = at-whole .before in
+    let least = at-lesser .lesser .result in
+    let few : 1 + at-under .under .result ≡ zeroBytes least = omega (arith, at-under .under .ensures .0, zeros-between 5 least (omega arith) (at-few .if2 .taken) (at-whole .if1 .left)) in
+    let fewer = zeros-fewer (at-lesser .before .args .by-fcm) (zeroBytes least) (zeros-at-most least) (omega arith) in
+    (omega (arith, at-under .under .ensures .1), few ∙ ap zeroBytes (at-lesser .lesser .ensures), rw (c .rung-above .ensures, few) fewer)
+
+returns-2 : tie.Need-returns-2
+returns-2 c = search needs
+
 zero-bytes-requires : tie.Need-zero-bytes-requires
 zero-bytes-requires c κs = search needs
 
 has-fewer-requires : tie.Need-has-fewer-requires
 has-fewer-requires c κs =
-    let at-lesser = c .before .before in
+    let at-lesser = c .before .before .before in
     let entry = at-lesser .before in
-    let z : c .zero-bytes .result ≡ zeroBytes (min (entry .args .by-fcm) (entry .args .by-dfcm)) = c .zero-bytes .ensures ∙ ap zeroBytes (at-lesser .lesser .ensures) in
-    omega (arith, z, zeros-some (min (entry .args .by-fcm) (entry .args .by-dfcm)) (omega arith) (omega (arith, entry .pre .0, entry .pre .1)))
+    omega (arith, c .zero-bytes .ensures, ap zeroBytes (at-lesser .lesser .ensures), lesser-some (entry .args .by-fcm) (entry .args .by-dfcm) (entry .pre .0) (entry .pre .1) (omega arith))
 
-top-bit-requires : tie.Need-top-bit-requires
-top-bit-requires c κs = search needs
-
-low-three-requires : tie.Need-low-three-requires
-low-three-requires c κs =
-    let at-zero-bytes = c .before .before in
-    omega (arith, at-zero-bytes .zero-bytes .ensures, zeros-at-most (at-zero-bytes .before .before .lesser .result))
-
-add-t9 : tie.Need-add-t9
-add-t9 c =
-    let at-top-bit = c .before in
-    let at-zero-bytes = at-top-bit .before .before in
-    let least = at-zero-bytes .before .before .lesser .result in
-    omega (arith, coded-fits (at-top-bit .before .has-fewer .result) least _ _ _ (at-top-bit .top-bit .ensures) (at-zero-bytes .zero-bytes .ensures) (c .low-three .ensures))
-
-picked-requires : tie.Need-picked-requires
-picked-requires c κs = search needs
-
-returns-2 : tie.Need-returns-2
-returns-2 c =
-    let at-low-three = c .before in
-    let at-top-bit = at-low-three .before in
-    let at-has-fewer = at-top-bit .before in
-    let at-zero-bytes = at-has-fewer .before in
-    let at-lesser = at-zero-bytes .before .before in
+coded-requires-2 : tie.Need-coded-requires-2
+coded-requires-2 c κs =
+    let at-zeros = c .before in
+    let at-lesser = at-zeros .before .before .before in
     let entry = at-lesser .before in
-    chosen-of-lesser (entry .args .by-fcm) (entry .args .by-dfcm) _ _ _ _ _ (at-zero-bytes .zero-bytes .ensures ∙ ap zeroBytes (at-lesser .lesser .ensures)) (at-has-fewer .has-fewer .ensures) (at-top-bit .top-bit .ensures) (at-low-three .low-three .ensures) (c .picked .ensures)
-    (omega arith) (omega arith)
+    let z = at-zeros .zero-bytes .ensures ∙ ap zeroBytes (at-lesser .lesser .ensures) in
+    (omega (arith, z, lesser-some (entry .args .by-fcm) (entry .args .by-dfcm) (entry .pre .0) (entry .pre .1) (omega arith)), z, c .has-fewer .ensures)
+
+returns-3 : tie.Need-returns-3
+returns-3 c = search needs
 
 pub chosen-spec : {M : Type 1} → statement M
 chosen-spec =
@@ -61,10 +67,12 @@ chosen-spec =
     (tie.spec
     lesser-requires
     returns
+    under-requires
+    add-few
+    rung-above-requires
+    coded-requires
+    returns-2
     zero-bytes-requires
     has-fewer-requires
-    top-bit-requires
-    low-three-requires
-    add-t9
-    picked-requires
-    returns-2)
+    coded-requires-2
+    returns-3)

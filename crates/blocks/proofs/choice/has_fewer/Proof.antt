@@ -1,5 +1,5 @@
 use native.Mathlib.Omega.{arith}
-use Rattle.words.proofs.Zeros.{zeros-fewer}
+use Rattle.words.proofs.Zeros.{zeros-shifted}
 use borrow.Author.Needs.{needs}
 use Rattle.blocks.proofs.choice.has_fewer.Statement.{statement}
 use Rattle.blocks.proofs.choice.has_fewer.Tie as tie
@@ -17,7 +17,7 @@ shr-result : tie.Need-shr-result
 shr-result c = search needs
 
 returns : tie.Need-returns
-returns c = zeros-fewer (c .args .residual) (c .args .zeros) (c .pre) (omega arith)
+returns c = zeros-shifted (c .args .residual) (c .args .zeros) (c .pre) (omega arith)
 
 pub has-fewer-spec : {M : Type 1} → statement M
 has-fewer-spec = tie.close (tie.spec mul-result sub-result cast-result shr-result returns)
