@@ -6,13 +6,12 @@ use Prim.Native.Nat.{ℕ, zero, suc, min, _+_, _-_, _*_, _/_, _%_, _≤_, _<_}
 use native.Mathlib.Omega.{arith}
 use native.Mathlib.Numerals.{add-one}
 use lib.Bits.{bitXor, xor-zero-l}
-use lib.Dec.{ltb, eqb}
+use lib.Dec.{eqb}
 use lib.ListN.{length, getD, take, drop, length-take, length-drop, drop-of-length-le}
 use lib.Seq.{drop-cons, getD-drop, getD-take}
-use borrow.Author.Tests.{ltb-true, ltb-false, eq-eqb, ne-eqb}
+use borrow.Author.Tests.{eq-eqb, ne-eqb}
 use Rattle.words.specs.Words.{xor}
 use Rattle.words.specs.Bytes.{field}
-use Rattle.words.proofs.Tests.{either}
 use Rattle.blocks.specs.Predictors.{Memory, learn, after}
 use Rattle.blocks.specs.Codes.{written, decodedWord, decodedWords}
 use Rattle.blocks.specs.Block.{count, halves, countedCodes, lastHalf, residualLength, withResiduals}

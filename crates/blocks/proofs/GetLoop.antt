@@ -7,13 +7,14 @@ use native.Mathlib.Numerals.{add-one}
 use lib.ListN.{length, getD, set, drop, replicate, length-set}
 use lib.Seq.{sets, drop-drop}
 use Rattle.blocks.specs.Predictors.{Memory, cleared, learn, after}
-use Rattle.blocks.specs.Codes.{written, decodedWord, decodedWords}
+use Rattle.words.specs.Words.{xor}
+use Rattle.words.specs.Bytes.{field}
+use Rattle.blocks.specs.Codes.{written, namedPrediction, decodedWord, decodedWords}
 use Rattle.blocks.specs.Block.{count, halves, countedCodes, residualLength, withResiduals, residualsAt, wordsIn}
 use Rattle.blocks.specs.Numbers.{tOf}
-use Rattle.blocks.specs.Inside.{memory, Ready, codedAt, Decodable, Decodes, GetsWord, Counted, Getting, Gets, Unpackable, UnpacksAll}
+use Rattle.blocks.specs.Inside.{memory, Ready, codedAt, Decodable, GetsWord, Counted, Getting, Gets, Unpackable, UnpacksAll}
 use Rattle.blocks.specs.declared.Coded.{Coded}
 use Rattle.blocks.specs.declared.predict.Carry.{Carry}
-use Rattle.blocks.specs.declared.reading.Back.{Back}
 use Rattle.blocks.specs.declared.reading.Place.{Place}
 use Rattle.blocks.proofs.Checks.{sets-over}
 use Rattle.blocks.proofs.Learn.{start, cleared-is, cleared-of, ready-start, ready-learn}
@@ -56,9 +57,11 @@ going-starts b n f d words p =
       all = rw (p .count, e);
     }
 
-pub gets-word : (t : ℕ) (m : Memory) (b : List ℕ) (at code k : ℕ) (words : List ℕ) (i : ℕ) (f d : List ℕ) (r : Back)
-    → Decodes t m (codedAt b at code) f d r → k ≡ written code → GetsWord t m b at code words i f d (set words i (r .word)) (record { at = at + k; carry = r .carry })
-gets-word t m b at code k words i f d r s e = record { word = rw (s .word); learnt = s .learnt; next = rw e }
+pub gets-word : (t : ℕ) (m : Memory) (b : List ℕ) (at code k : ℕ) (words : List ℕ) (i : ℕ) (f d : List ℕ) (c : Carry) (p v : ℕ)
+    → p ≡ namedPrediction m code → v ≡ xor (field (written code) at b) p → memory f d c ≡ learn t m v → k ≡ written code
+    → GetsWord t m b at code words i f d (set words i v) (record { at = at + k; carry = c })
+unfolding decodedWord
+gets-word t m b at code k words i f d c p v e1 e2 e3 e4 = record { word = cc; learnt = cc; next = rw e4 }
 
 learnt-long : (t : ℕ) (f d f' d' : List ℕ) (c c' : Carry) (v : ℕ) → memory f' d' c' ≡ learn t (memory f d c) v → (length f' ≡ length f) × (length d' ≡ length d)
 unfolding learn

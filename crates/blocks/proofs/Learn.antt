@@ -10,10 +10,9 @@ use lib.Pow.{pow-mono, pow-pos, shl-exact}
 use borrow.Author.Tests.{lt-ltb, le-ltb}
 use Rattle.words.specs.Words.{add64, sub64, shiftedLeft, lowBits, xor}
 use Rattle.blocks.specs.Predictors.{Memory, cleared, fcmPrediction, dfcmPrediction, difference, nextFcmHash, nextDfcmHash, learn}
-use Rattle.blocks.specs.Codes.{fcmResidual, dfcmResidual, chosen, codedWord, namedPrediction, decodedWord}
+use Rattle.blocks.specs.Codes.{fcmResidual, dfcmResidual, chosen, codedWord, namedPrediction}
 use Rattle.blocks.specs.Numbers.{tOf}
-use Rattle.blocks.specs.Inside.{memory, Sized, Ready, Masked, Decodes, Cleared}
-use Rattle.blocks.specs.declared.Coded.{Coded}
+use Rattle.blocks.specs.Inside.{memory, Sized, Ready, Masked, Cleared}
 use Rattle.blocks.specs.declared.predict.Carry.{Carry}
 use Rattle.blocks.proofs.Tables.{sized-some}
 
@@ -56,12 +55,6 @@ named-fcm m c p h e = rw (lt-ltb c 8 h) e
 pub named-dfcm : (m : Memory) (c p : ℕ) → 8 ≤ c → p ≡ add64 (getD (m .dfcm) (m .dfcmHash) 0) (m .last) → p ≡ namedPrediction m c
 unfolding namedPrediction dfcmPrediction
 named-dfcm m c p h e = rw (le-ltb c 8 h) e
-
-pub decoded-word : (t : ℕ) (m : Memory) (f' d' : List ℕ) (c' : Carry) (w : Coded) (p v : ℕ)
-    → p ≡ namedPrediction m (w .code) → v ≡ xor (w .residual) p → memory f' d' c' ≡ learn t m v
-    → Decodes t m w f' d' (record { carry = c'; word = v })
-unfolding decodedWord
-decoded-word t m f' d' c' w p v e1 e2 e3 = record { word = cc; learnt = cc }
 
 -- ---- tables of one size stay so, and hashes within them
 

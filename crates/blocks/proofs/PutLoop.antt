@@ -3,25 +3,50 @@ use mathlib.Core.Path.{_≡_, refl, sym, ap, _∙_, subst}
 use mathlib.Core.List.{List, [], _∷_, _++_, append-assoc, append-nil}
 use Prim.Native.Nat.{ℕ, suc, _+_, _-_, _*_, _/_, _%_, _≤_, _<_}
 use native.Mathlib.Omega.{arith}
-use native.Mathlib.Nat.{add-zero}
 use lib.ListN.{length, getD, set, take, drop, replicate, length-set, length-drop, length-append, drop-of-length-le}
-use lib.Seq.{sets, length-sets, drop-cons, length-take-le}
+use lib.Seq.{sets, drop-cons, length-take-le}
 use Rattle.words.specs.Bytes.{lowBytes}
 use Rattle.words.proofs.Stores.{sets-append, sets-sets}
 use Rattle.blocks.specs.Predictors.{Memory, cleared, learn, after}
-use Rattle.blocks.specs.Codes.{written, residualBytes, codedWord, codedWords}
+use Rattle.blocks.specs.Codes.{residualBytes, codedWord, codedWords}
 use Rattle.blocks.specs.Block.{codes, codeBytes, allResidualBytes, residualsAt, worst, block}
 use Rattle.blocks.specs.Numbers.{tOf}
-use Rattle.blocks.specs.Inside.{memory, Ready, StagesWord, StagesPair, Staged, MakesRoom, Putting, left, Going, Puts, Packable, PacksAll}
+use Rattle.blocks.specs.Inside.{memory, Ready, StagesWord, StagesPair, Staged, MakesRoom, unpaired, Resting, Putting, Puts, Packable, PacksAll}
 use Rattle.blocks.specs.declared.predict.Carry.{Carry}
 use Rattle.blocks.specs.declared.Coded.{Coded}
 use Rattle.blocks.specs.declared.packing.Step.{Step}
 use Rattle.blocks.specs.declared.packing.Pair.{Pair}
 use Rattle.blocks.specs.declared.packing.Pending.{Pending}
+use Rattle.blocks.specs.declared.packing.Rest.{Rest}
 use Rattle.blocks.proofs.Codes.{written-small}
 use Rattle.blocks.proofs.Stage.{word-room}
 use Rattle.blocks.proofs.Learn.{start, cleared-is, cleared-of, ready-start, two-ready}
 use Rattle.blocks.proofs.Put.{length-residual, length-residuals, length-code-bytes, length-codes, length-coded, length-block, put-block}
+
+-- the coded words from word i on
+abbrev pub left : ℕ → List ℕ → Memory → ℕ → List Coded
+left t ws m i = codedWords t m (drop i ws)
+
+-- Finishing from here, over the words from 2k on, leaves what the whole run leaves. What is staged comes before what is left.
+pub record Going (ws f₀ d₀ out₀ f d out stage : List ℕ) (at staged : ℕ) (c : Carry) (k : ℕ) : Type 0 where
+  pub upto : 2 * k ≤ length ws
+  pub fcmLong : length f ≡ length f₀
+  pub dfcmLong : length d ≡ length d₀
+  pub outLong : length out ≡ length out₀
+  pub stageLong : length stage ≡ 512
+  pub ready : Ready f d c
+  pub few : staged ≤ 512
+  pub from : residualsAt (length ws) ≤ at
+  pub to : at + staged ≤ residualsAt (length ws) + 16 * k
+  pub state : after (tOf (length f₀)) (memory f d c) (drop (2 * k) ws) ≡ after (tOf (length f₀)) (cleared (tOf (length f₀))) ws
+  pub end :
+      at + staged + length (allResidualBytes (left (tOf (length f₀)) ws (memory f d c) (2 * k)))
+      ≡ residualsAt (length ws) + length (allResidualBytes (codedWords (tOf (length f₀)) (cleared (tOf (length f₀))) ws))
+  pub bytes :
+      sets (sets out (8 + k) (codeBytes (codes (left (tOf (length f₀)) ws (memory f d c) (2 * k))))) at
+      (take staged stage ++ allResidualBytes (left (tOf (length f₀)) ws (memory f d c) (2 * k)))
+      ≡ sets (sets out₀ 8 (codeBytes (codes (codedWords (tOf (length f₀)) (cleared (tOf (length f₀))) ws)))) (residualsAt (length ws))
+      (allResidualBytes (codedWords (tOf (length f₀)) (cleared (tOf (length f₀))) ws))
 
 two-dropped : (ws : List ℕ) (k : ℕ) → 2 * k + 1 < length ws → drop (2 * k) ws ≡ getD ws (2 * k) 0 ∷ getD ws (2 * k + 1) 0 ∷ drop (2 * (k + 1)) ws
 two-dropped ws k h =
@@ -124,58 +149,69 @@ module _ {ws f₀ d₀ out₀ f d out stage : List ℕ} {at staged : ℕ} {c : C
       }
 
   -- after the last whole pair
-  pub going-done : length ws / 2 ≤ k → Going ws f₀ d₀ out₀ f d out stage at staged c (length ws / 2)
-  going-done h =
-      let e : k ≡ length ws / 2 = omega (arith, g .upto) in
-      subst (λ (j : ℕ). Going ws f₀ d₀ out₀ f d out stage at staged c j) e g
+  module _ (few : staged ≤ 496) (h : length ws / 2 ≤ k) (n : length ws ≤ 65536) where
+    whole : k ≡ length ws / 2
+    whole = omega (arith, g .upto)
 
-  -- where no word is left, what is staged is all that is left
-  pub going-ends : (out' : List ℕ) (end : ℕ) → length ws / 2 ≤ k → length ws % 2 ≡ 0 → out' ≡ sets out at (take staged stage) → end ≡ at + staged
-      → Puts (tOf (length f₀)) ws out₀ f d out' end
-  going-ends out' end h even po pe =
-      let t = tOf (length f₀) in
-      let e : drop (2 * k) ws ≡ [] = drop-of-length-le ws {i = 2 * k} (omega arith) in
-      let m : memory f d c ≡ after t (cleared t) ws = rw e at (g .state) in
+    pub going-rests : Resting ws f d out stage (record { carry = c; at = at; staged = staged })
+    going-rests = record {
+      ready = g .ready;
+      few = n;
+      stageLong = g .stageLong;
+      staged = few;
+      codes = omega (arith, room, g .outLong);
+      room = omega (arith, g .to, g .upto, g .outLong, room);
+    }
+
+    -- what is left is put as the whole run puts it
+    pub going-ends : (f' d' out' : List ℕ) (end : ℕ) → Puts (tOf (length f)) (memory f d c) (unpaired ws) (8 + length ws / 2) at (take staged stage) out f' d' out' end
+        → Puts (tOf (length f₀)) (cleared (tOf (length f₀))) ws 8 (residualsAt (length ws)) [] out₀ f' d' out' end
+    going-ends f' d' out' end p =
+        let at-end : Going ws f₀ d₀ out₀ f d out stage at staged c (length ws / 2) = subst (λ (j : ℕ). Going ws f₀ d₀ out₀ f d out stage at staged c j) whole g in
+        let t-is : tOf (length f) ≡ tOf (length f₀) = ap tOf (g .fcmLong) in
+        record {
+          fcm = (rw t-is at (p .fcm)) ∙ ap (λ (m : Memory). m .fcm) (at-end .state);
+          dfcm = (rw t-is at (p .dfcm)) ∙ ap (λ (m : Memory). m .dfcm) (at-end .state);
+          bytes = (rw t-is at (p .bytes)) ∙ at-end .bytes;
+          ends = omega (arith, rw t-is at (p .ends), length-append (take staged stage) (allResidualBytes (left (tOf (length f₀)) ws (memory f d c) (2 * (length ws / 2)))), length-take-le staged stage (omega (arith, few, g .stageLong)), at-end .end);
+        }
+
+-- ---- after the whole pairs
+
+module _ {ws f d out stage : List ℕ} {p : Rest} (q : Resting ws f d out stage p) where
+  -- an even count leaves no word
+  pub rest-even : (out' : List ℕ) (end : ℕ) → length ws % 2 ≡ 0 → out' ≡ sets out (p .at) (take (p .staged) stage) → end ≡ p .at + p .staged
+      → Puts (tOf (length f)) (memory f d (p .carry)) (unpaired ws) (8 + length ws / 2) (p .at) (take (p .staged) stage) out f d out' end
+  rest-even out' end even po pe =
+      let none : unpaired ws ≡ [] = drop-of-length-le ws {i = 2 * (length ws / 2)} (omega arith) in
       record {
-        fcm = ap (λ (x : Memory). x .fcm) m;
-        dfcm = ap (λ (x : Memory). x .dfcm) m;
-        bytes = po ∙ (rw (e, append-nil) at (g .bytes));
-        end = pe ∙ sym (add-zero _) ∙ (rw e at (g .end));
+        fcm = rw none;
+        dfcm = rw none;
+        bytes = rw (none, append-nil) po;
+        ends = rw (none, append-nil) (omega (arith, pe, length-take-le (p .staged) stage (omega (arith, q .staged, q .stageLong))));
       }
 
--- after the whole pairs, where one word is left
-module _ {ws f₀ d₀ out₀ f d out stage : List ℕ} {at staged : ℕ} {c : Carry} (room : worst (length ws) ≤ length out₀)
-    (g : Going ws f₀ d₀ out₀ f d out stage at staged c (length ws / 2)) {f' d' : List ℕ} (stage' : List ℕ) (r : Step) where
-  -- its residual bytes have room
-  pub last-staged : (b : ℕ) → length stage' ≡ length stage → staged ≤ 496
-      → StagesWord (tOf (length f)) (memory f d c) (getD ws (length ws - 1) 0) stage staged f' d' stage' r → (length ws % 2 ≡ 0 → ⊥)
-      → Staged (set out (8 + length ws / 2) b) stage' (record { at = at; staged = r .staged })
-  last-staged b l few s odd =
-      let w = word-room s in
-      record { few = omega (arith, l, g .stageLong, w, few); room = omega (arith, length-set out (8 + length ws / 2) b, w, g .to, g .outLong, room) }
+  -- an odd count leaves the last word, which has a code byte of its own
+  module _ (odd : length ws % 2 ≡ 0 → ⊥) {f' d' : List ℕ} (stage' : List ℕ) (r : Step)
+      (s : StagesWord (tOf (length f)) (memory f d (p .carry)) (getD ws (length ws - 1) 0) stage (p .staged) f' d' stage' r) where
+    pub last-staged : (b : ℕ) → length stage' ≡ length stage → Staged (set out (8 + length ws / 2) b) stage' (record { at = p .at; staged = r .staged })
+    last-staged b l =
+        let w = word-room s in
+        record { few = omega (arith, l, q .stageLong, w, q .staged); room = omega (arith, length-set out (8 + length ws / 2) b, w, q .room) }
 
-  -- and it has a code byte of its own
-  pub going-last : (out' : List ℕ) (end : ℕ) → (length ws % 2 ≡ 0 → ⊥)
-      → StagesWord (tOf (length f)) (memory f d c) (getD ws (length ws - 1) 0) stage staged f' d' stage' r
-      → out' ≡ sets (set out (8 + length ws / 2) (r .code * 16 + 7)) at (take (r .staged) stage') → end ≡ at + r .staged
-      → Puts (tOf (length f₀)) ws out₀ f' d' out' end
-  going-last out' end odd s po pe =
-      let t = tOf (length f₀) in
-      let k = length ws / 2 in
-      let m₀ = memory f d c in
-      let v = getD ws (length ws - 1) 0 in
-      let x = codedWord m₀ v in
-      let t-is : tOf (length f) ≡ t = ap tOf (g .fcmLong) in
-      let i : 2 * k ≡ length ws - 1 = omega arith in
-      let dc : drop (2 * k) ws ≡ v ∷ [] = drop-cons ws (2 * k) 0 (omega arith) ∙ rw i (ap (λ (l : List ℕ). v ∷ l) (drop-of-length-le ws {i = suc (length ws - 1)} (omega arith))) in
-      let m : memory f' d' (r .carry) ≡ learn t m₀ v = rw t-is at (s .learnt) in
-      let m' : learn t m₀ v ≡ after t (cleared t) ws = rw dc at (g .state) in
-      record {
-        fcm = ap (λ (y : Memory). y .fcm) (m ∙ m');
-        dfcm = ap (λ (y : Memory). y .dfcm) (m ∙ m');
-        bytes = po ∙ rw (s .code-is, s .bytes .held) (rw (dc, append-nil) at (g .bytes));
-        end = pe ∙ omega (arith, s .bytes .count, rw dc at (g .end), length-residuals x [], length-residual x);
-      }
+    pub rest-odd : (out' : List ℕ) (end : ℕ) → out' ≡ sets (set out (8 + length ws / 2) (r .code * 16 + 7)) (p .at) (take (r .staged) stage') → end ≡ p .at + r .staged
+        → Puts (tOf (length f)) (memory f d (p .carry)) (unpaired ws) (8 + length ws / 2) (p .at) (take (p .staged) stage) out f' d' out' end
+    rest-odd out' end po pe =
+        let v = getD ws (length ws - 1) 0 in
+        let x = codedWord (memory f d (p .carry)) v in
+        let i : 2 * (length ws / 2) ≡ length ws - 1 = omega arith in
+        let one : unpaired ws ≡ v ∷ [] = drop-cons ws (2 * (length ws / 2)) 0 (omega arith) ∙ rw i (ap (λ (l : List ℕ). v ∷ l) (drop-of-length-le ws {i = suc (length ws - 1)} (omega arith))) in
+        record {
+          fcm = rw one (ap (λ (m : Memory). m .fcm) (s .learnt));
+          dfcm = rw one (ap (λ (m : Memory). m .dfcm) (s .learnt));
+          bytes = po ∙ rw (one, append-nil, s .code-is, s .bytes .held);
+          ends = rw (one, append-nil) (omega (arith, pe, s .bytes .count, length-append (take (p .staged) stage) (residualBytes x), length-take-le (p .staged) stage (omega (arith, q .staged, q .stageLong))));
+        }
 
 -- ---- around the loop: the tables cleared before it, the head put after it
 
@@ -184,11 +220,11 @@ pub putting-of : (ws f d out stage f₁ d₁ : List ℕ) → Packable (length ws
 putting-of ws f d out stage f₁ d₁ p e q s = record { cleared = cleared-of f d f₁ d₁ (p .sized) e q; few = p .few; room = p .room; stageLong = s }
 
 pub packs-all : (ws f d out f₁ f' d' out₁ out₂ : List ℕ) (end : ℕ) → Packable (length ws) (length f) (length d) (length out) → length f₁ ≡ length f
-    → Puts (tOf (length f₁)) ws out f' d' out₁ end → out₂ ≡ sets out₁ 0 (lowBytes 4 (length ws) ++ lowBytes 4 end)
+    → Puts (tOf (length f₁)) (cleared (tOf (length f₁))) ws 8 (residualsAt (length ws)) [] out f' d' out₁ end → out₂ ≡ sets out₁ 0 (lowBytes 4 (length ws) ++ lowBytes 4 end)
     → PacksAll (tOf (length f)) ws out f' d' out₂ end
 packs-all ws f d out f₁ f' d' out₁ out₂ end p e s q =
     let t = tOf (length f) in
-    let k : end ≡ length (block t ws) = (rw e at (s .end)) ∙ sym (length-block t ws) in
+    let k : end ≡ length (block t ws) = (rw e at (s .ends)) ∙ sym (length-block t ws) in
     record {
       size = k;
       fcm = rw e at (s .fcm);

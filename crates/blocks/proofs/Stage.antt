@@ -1,7 +1,7 @@
 -- Staging residual bytes: eight stored at a time, of which a code's own number counts.
 use mathlib.Core.Path.{_≡_, refl, sym, ap, _∙_}
-use mathlib.Core.List.{List, [], _∷_, _++_, append-nil, append-assoc}
-use Prim.Native.Nat.{ℕ, zero, suc, _+_, _-_, _*_, _/_, _%_, _^_, _≤_, _<_}
+use mathlib.Core.List.{List, _∷_, _++_, append-nil, append-assoc}
+use Prim.Native.Nat.{ℕ, zero, suc, _+_, _*_, _/_, _%_, _^_, _≤_, _<_}
 use native.Mathlib.Omega.{arith}
 use native.Mathlib.Nat.{add-zero}
 use lib.ListN.{length, set, take, drop, length-append}
@@ -13,12 +13,11 @@ use Rattle.words.proofs.Bytes.{length-low}
 use Rattle.words.proofs.Zeros.{zeros-at-most, zeros-of-zero, zeros-some}
 use Rattle.blocks.specs.Predictors.{Memory, learn}
 use Rattle.blocks.specs.Codes.{dfcmChosen, lowThree, written, codedBy, chosen, codedWord, residualBytes}
-use Rattle.blocks.specs.Inside.{memory, Stages, StagesChosen, StagesWord, StagesPair}
+use Rattle.blocks.specs.Inside.{memory, StagesChosen, StagesWord, StagesPair}
 use Rattle.blocks.specs.declared.Coded.{Coded}
 use Rattle.blocks.specs.declared.predict.Carry.{Carry}
 use Rattle.blocks.specs.declared.packing.Staging.{Staging}
 use Rattle.blocks.specs.declared.packing.Step.{Step}
-use Rattle.blocks.specs.declared.packing.Pair.{Pair}
 use Rattle.blocks.proofs.Codes.{written-small, chosen-fcm, chosen-dfcm, coded-small}
 use Rattle.blocks.proofs.Put.{length-residual}
 

@@ -2,8 +2,6 @@
 use mathlib.Core.Path.{_≡_}
 use Prim.Native.Nat.{ℕ, _+_, _*_, _/_, _%_, _^_, _<_, _≤_}
 use mathlib.Core.List.{List, _++_}
-use mathlib.Core.Bool.{cond}
-use lib.Dec.{eqb}
 use lib.ListN.{length, set, take, drop, replicate}
 use lib.Seq.{sets}
 use Rattle.words.specs.Bytes.{field}
@@ -18,7 +16,7 @@ use Rattle.blocks.specs.declared.packing.Staging.{Staging}
 use Rattle.blocks.specs.declared.packing.Step.{Step}
 use Rattle.blocks.specs.declared.packing.Pair.{Pair}
 use Rattle.blocks.specs.declared.packing.Pending.{Pending}
-use Rattle.blocks.specs.declared.reading.Back.{Back}
+use Rattle.blocks.specs.declared.packing.Rest.{Rest}
 use Rattle.blocks.specs.declared.reading.Place.{Place}
 
 -- the two tables, and the hashes and the last word that the code carries, as one memory
@@ -92,11 +90,6 @@ pub record Decodable (b : List ℕ) (at code : ℕ) (f d : List ℕ) (c : Carry)
   pub past : 8 ≤ at
   pub within : at + written code ≤ length b
 
--- a word was decoded and learnt, from the memory m to the tables f and d
-pub record Decodes (t : ℕ) (m : Memory) (c : Coded) (f d : List ℕ) (r : Back) : Type 0 where
-  pub word : r .word ≡ decodedWord m c
-  pub learnt : memory f d (r .carry) ≡ learn t m (decodedWord m c)
-
 -- the word of a code was decoded and learnt, from the memory m to the tables f and d, and put as word i
 pub record GetsWord (t : ℕ) (m : Memory) (b : List ℕ) (at code : ℕ) (words : List ℕ) (i : ℕ) (f d words' : List ℕ) (r : Place) : Type 0 where
   pub word : words' ≡ set words i (decodedWord m (codedAt b at code))
@@ -108,6 +101,26 @@ pub record Packable (n f d bytes : ℕ) : Type 0 where
   pub sized : Sized f d
   pub few : n ≤ 65536
   pub room : worst n ≤ bytes
+
+-- words are put, from the memory m to the tables f' and d': their code bytes at one place, their residual bytes at another, behind those that are staged
+pub record Puts (t : ℕ) (m : Memory) (words : List ℕ) (codesAt at : ℕ) (staged out f' d' out' : List ℕ) (end : ℕ) : Type 0 where
+  pub fcm : f' ≡ after t m words .fcm
+  pub dfcm : d' ≡ after t m words .dfcm
+  pub bytes : out' ≡ sets (sets out codesAt (codeBytes (codes (codedWords t m words)))) at (staged ++ allResidualBytes (codedWords t m words))
+  pub ends : end ≡ at + length (staged ++ allResidualBytes (codedWords t m words))
+
+-- the last word of an odd count, which no pair holds
+abbrev pub unpaired : List ℕ → List ℕ
+unpaired words = drop (2 * (length words / 2)) words
+
+-- what the whole pairs leave can be put: the hashes are within the tables, and there is room for what is staged and a word more
+pub record Resting (words f d out stage : List ℕ) (r : Rest) : Type 0 where
+  pub ready : Ready f d (r .carry)
+  pub few : length words ≤ 65536
+  pub stageLong : length stage ≡ 512
+  pub staged : r .staged ≤ 496
+  pub codes : residualsAt (length words) ≤ length out
+  pub room : r .at + r .staged + 8 * (length words % 2) ≤ length out
 
 -- tables of one size, cleared
 pub record Cleared (f d : List ℕ) : Type 0 where
@@ -121,38 +134,6 @@ pub record Putting (words f d out stage : List ℕ) : Type 0 where
   pub few : length words ≤ 65536
   pub room : worst (length words) ≤ length out
   pub stageLong : length stage ≡ 512
-
--- the coded words from word i on
-abbrev pub left : ℕ → List ℕ → Memory → ℕ → List Coded
-left t ws m i = codedWords t m (drop i ws)
-
--- Finishing from here, over the words from 2k on, leaves what the whole run leaves. What is staged comes before what is left.
-pub record Going (ws f₀ d₀ out₀ f d out stage : List ℕ) (at staged : ℕ) (c : Carry) (k : ℕ) : Type 0 where
-  pub upto : 2 * k ≤ length ws
-  pub fcmLong : length f ≡ length f₀
-  pub dfcmLong : length d ≡ length d₀
-  pub outLong : length out ≡ length out₀
-  pub stageLong : length stage ≡ 512
-  pub ready : Ready f d c
-  pub few : staged ≤ 512
-  pub from : residualsAt (length ws) ≤ at
-  pub to : at + staged ≤ residualsAt (length ws) + 16 * k
-  pub state : after (tOf (length f₀)) (memory f d c) (drop (2 * k) ws) ≡ after (tOf (length f₀)) (cleared (tOf (length f₀))) ws
-  pub end :
-      at + staged + length (allResidualBytes (left (tOf (length f₀)) ws (memory f d c) (2 * k)))
-      ≡ residualsAt (length ws) + length (allResidualBytes (codedWords (tOf (length f₀)) (cleared (tOf (length f₀))) ws))
-  pub bytes :
-      sets (sets out (8 + k) (codeBytes (codes (left (tOf (length f₀)) ws (memory f d c) (2 * k))))) at
-      (take staged stage ++ allResidualBytes (left (tOf (length f₀)) ws (memory f d c) (2 * k)))
-      ≡ sets (sets out₀ 8 (codeBytes (codes (codedWords (tOf (length f₀)) (cleared (tOf (length f₀))) ws)))) (residualsAt (length ws))
-      (allResidualBytes (codedWords (tOf (length f₀)) (cleared (tOf (length f₀))) ws))
-
--- the codes and the residual bytes of words are put, and the tables are the predictors' after them
-pub record Puts (t : ℕ) (words out f' d' out' : List ℕ) (e : ℕ) : Type 0 where
-  pub fcm : f' ≡ after t (cleared t) words .fcm
-  pub dfcm : d' ≡ after t (cleared t) words .dfcm
-  pub bytes : out' ≡ sets (sets out 8 (codeBytes (codes (codedWords t (cleared t) words)))) (residualsAt (length words)) (allResidualBytes (codedWords t (cleared t) words))
-  pub end : e ≡ residualsAt (length words) + length (allResidualBytes (codedWords t (cleared t) words))
 
 -- words are packed
 pub record PacksAll (t : ℕ) (words old f' d' out' : List ℕ) (k : ℕ) : Type 0 where

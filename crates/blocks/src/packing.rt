@@ -1,14 +1,16 @@
 // Packing words into a block.
 ghost use mathlib.Core.Path.{_≡_};
 ghost use Prim.Native.Nat.{_+_, _/_, _≤_};
-ghost use mathlib.Core.List.{_++_};
+ghost use mathlib.Core.List.{[], _++_};
 ghost use lib.ListN.{length, take};
 ghost use lib.Seq.{sets};
 ghost use Rattle.words.specs.Bytes.{lowBytes};
+ghost use Rattle.blocks.specs.Predictors.{cleared};
 ghost use Rattle.blocks.specs.Codes.{chosen};
+ghost use Rattle.blocks.specs.Block.{residualsAt};
 ghost use Rattle.blocks.specs.Numbers.{tOf};
 ghost use Rattle.blocks.specs.Calls.{Packs};
-ghost use Rattle.blocks.specs.Inside.{memory, Ready, StageRoom, StagesChosen, StagesWord, StagesPair, Staged, MakesRoom, Packable, Putting, Going, Puts, PacksAll};
+ghost use Rattle.blocks.specs.Inside.{memory, Ready, StageRoom, StagesChosen, StagesWord, StagesPair, Staged, MakesRoom, Packable, unpaired, Resting, Putting, Puts, PacksAll};
 use crate::Packed;
 use crate::choice;
 use crate::numbers;
@@ -35,8 +37,8 @@ pub struct Pending {
     pub staged: usize,
 }
 
-// What the whole pairs of words leave: the carry, where the next residual bytes go, and how many are
-// staged.
+// What the whole pairs of words leave: what the predictors carry, where the next residual bytes go, and
+// how many are staged.
 pub struct Rest {
     pub carry: Carry,
     pub at: usize,
@@ -156,17 +158,55 @@ fn make_room(out: &mut [u8], stage: &[u8], place: Pending) -> Pending
     Pending { at: end, staged: 0 }
 }
 
-// Puts the codes and the residual bytes of all whole pairs of words, two words a turn, the tables being
-// cleared. The last residual bytes are still staged at the end.
-fn put_pairs(
+// Puts what the whole pairs leave: what is staged, and the last word where the count is odd. Answers
+// where the residual bytes end.
+fn put_rest(
     words: &[u64],
     fcm: &mut [u64],
     dfcm: &mut [u64],
     out: &mut [u8],
     stage: &mut [u8],
-) -> Rest
+    rest: Rest,
+) -> usize
+    requires { ⌜ Resting (now words) (now fcm) (now dfcm) (now out) (now stage) rest ⌝ }
+    ensures { λ r. ⌜ Puts (tOf (length (now (fcm .entry)))) (memory (now (fcm .entry)) (now (dfcm .entry)) (rest .carry)) (unpaired (now (words .entry))) (8 + length (now (words .entry)) / 2) (rest .at) (take (rest .staged) (now (stage .entry))) (now (out .entry)) (now (fcm .exit)) (now (dfcm .exit)) (now (out .exit)) r ⌝ }
+{
+    let count = words.len();
+    if count % 2 == 0 {
+        return flush(
+            out,
+            stage,
+            Pending {
+                at: rest.at,
+                staged: rest.staged,
+            },
+        );
+    }
+    let carry = rest.carry;
+    let step = stage_word(fcm, dfcm, stage, carry, rest.staged, words[count - 1]);
+    out[8 + count / 2] = step.code * 16 + 7;
+    flush(
+        out,
+        stage,
+        Pending {
+            at: rest.at,
+            staged: step.staged,
+        },
+    )
+}
+
+// Puts the codes and the residual bytes of all words, two words a turn, the tables being cleared.
+// Answers where the residual bytes end. The stage is there so that a word's bytes take one store, and
+// nothing beyond the block is touched.
+fn put_words(
+    words: &[u64],
+    fcm: &mut [u64],
+    dfcm: &mut [u64],
+    out: &mut [u8],
+    stage: &mut [u8],
+) -> usize
     requires { ⌜ Putting (now words) (now fcm) (now dfcm) (now out) (now stage) ⌝ }
-    ensures { λ r. ⌜ (r .staged ≤ 496) × Going (now (words .entry)) (now (fcm .entry)) (now (dfcm .entry)) (now (out .entry)) (now (fcm .exit)) (now (dfcm .exit)) (now (out .exit)) (now (stage .exit)) (r .at) (r .staged) (r .carry) (length (now (words .entry)) / 2) ⌝ }
+    ensures { λ r. ⌜ Puts (tOf (length (now (fcm .entry)))) (cleared (tOf (length (now (fcm .entry))))) (now (words .entry)) 8 (residualsAt (length (now (words .entry)))) [] (now (out .entry)) (now (fcm .exit)) (now (dfcm .exit)) (now (out .exit)) r ⌝ }
 {
     let n = words.len();
     let mut at = 8 + (n + 1) / 2;
@@ -202,45 +242,7 @@ fn put_pairs(
         carry = next;
         k += 1;
     }
-    Rest { carry, at, staged }
-}
-
-// Puts the codes and the residual bytes of all words, the tables being cleared. Answers where the
-// residual bytes end. The stage is there so that a word's bytes take one store, and nothing beyond the
-// block is touched.
-fn put_words(
-    words: &[u64],
-    fcm: &mut [u64],
-    dfcm: &mut [u64],
-    out: &mut [u8],
-    stage: &mut [u8],
-) -> usize
-    requires { ⌜ Putting (now words) (now fcm) (now dfcm) (now out) (now stage) ⌝ }
-    ensures { λ r. ⌜ Puts (tOf (length (now (fcm .entry)))) (now (words .entry)) (now (out .entry)) (now (fcm .exit)) (now (dfcm .exit)) (now (out .exit)) r ⌝ }
-{
-    let count = words.len();
-    let rest = put_pairs(words, fcm, dfcm, out, stage);
-    if count % 2 == 0 {
-        return flush(
-            out,
-            stage,
-            Pending {
-                at: rest.at,
-                staged: rest.staged,
-            },
-        );
-    }
-    let carry = rest.carry;
-    let step = stage_word(fcm, dfcm, stage, carry, rest.staged, words[count - 1]);
-    out[8 + count / 2] = step.code * 16 + 7;
-    flush(
-        out,
-        stage,
-        Pending {
-            at: rest.at,
-            staged: step.staged,
-        },
-    )
+    put_rest(words, fcm, dfcm, out, stage, Rest { carry, at, staged })
 }
 
 // Puts the two fields at the head of a block: the word count and the length of the whole block.

@@ -8,19 +8,13 @@ ghost use Rattle.blocks.specs.Block.{count, halves, countedCodes, residu
 ghost use Rattle.blocks.specs.Codes.{written, namedPrediction};
 ghost use Rattle.blocks.specs.Numbers.{tOf, fillerStands, blockNumber, unpackNumber};
 ghost use Rattle.blocks.specs.Calls.{checked, Unpacks};
-ghost use Rattle.blocks.specs.Inside.{memory, Ready, codedAt, Decodable, Decodes, GetsWord, Counted, Getting, Gets, Unpackable, UnpacksAll};
+ghost use Rattle.blocks.specs.Inside.{memory, Ready, Decodable, GetsWord, Counted, Getting, Gets, Unpackable, UnpacksAll};
 use crate::Checked;
 use crate::Unpacked;
 use crate::choice;
 use crate::numbers;
 use crate::predict;
 use crate::predict::Carry;
-
-// The word that a code and a residual give, and what the predictors carry on.
-pub struct Back {
-    pub carry: Carry,
-    pub word: u64,
-}
 
 // Where a word is read: its residual bytes start there, and this is what the predictors carry.
 pub struct Place {
@@ -172,25 +166,8 @@ fn corrected(block: &[u8], at: usize, code: u8, predicted: u64) -> u64
     words::load_bytes(block, at, k) ^ predicted
 }
 
-// Decodes the word of a code whose residual bytes start at a place, and both predictors learn it.
-fn decode_word(
-    block: &[u8],
-    at: usize,
-    code: u8,
-    fcm: &mut [u64],
-    dfcm: &mut [u64],
-    carry: Carry,
-) -> Back
-    requires { ⌜ Decodable (now block) at code (now fcm) (now dfcm) carry ⌝ }
-    ensures { λ r. ⌜ Decodes (tOf (length (now (fcm .entry)))) (memory (now (fcm .entry)) (now (dfcm .entry)) carry) (codedAt (now (block .entry)) at code) (now (fcm .exit)) (now (dfcm .exit)) r ⌝ }
-{
-    let predicted = named_prediction(fcm, dfcm, carry, code);
-    let word = corrected(block, at, code, predicted);
-    let next = predict::learn(fcm, dfcm, carry, word);
-    Back { carry: next, word }
-}
-
-// Reads the word of a code, at a place, as word i. Answers the place of the next word.
+// Reads the word of a code, at a place, as word i, and both predictors learn it. Answers the place of
+// the next word.
 fn get_word(
     block: &[u8],
     place: Place,
@@ -205,9 +182,10 @@ fn get_word(
 {
     let at = place.at;
     let carry = place.carry;
-    let back = decode_word(block, at, code, fcm, dfcm, carry);
-    words[i] = back.word;
-    let next = back.carry;
+    let predicted = named_prediction(fcm, dfcm, carry, code);
+    let word = corrected(block, at, code, predicted);
+    words[i] = word;
+    let next = predict::learn(fcm, dfcm, carry, word);
     Place {
         at: at + choice::written(code),
         carry: next,

@@ -1,22 +1,20 @@
 -- Reading the input's words one a turn, and what packing them answers.
 use mathlib.Core.Path.{_≡_, refl, sym, ap, _∙_}
-use mathlib.Core.List.{List, [], _∷_}
+use mathlib.Core.List.{List}
 use Prim.Native.Nat.{ℕ, zero, suc, _+_, _-_, _*_, _/_, _%_, _≤_, _<_}
 use native.Mathlib.Omega.{arith}
 use lib.ListN.{length, set, take, drop}
 use lib.Seq.{sets, drop-drop, take-append-seam}
 use borrow.Author.Tests.{eqb-true, leb-true}
 use Rattle.words.specs.Bytes.{field}
-use Rattle.blocks.specs.Block.{block}
 use Rattle.blocks.specs.Numbers.{over, tOf}
-use Rattle.blocks.specs.Inside.{Packable}
 use Rattle.blocks.specs.Calls.{packed, packsNumber, Packs}
 use Rattle.blocks.specs.declared.Packed.{Packed}
 use Rattle.blocks.proofs.Checks.{unless-holds, none-fails, afterwards-old, sets-over, told-within}
 use Rattle.blocks.proofs.Tables.{sized-power, t-of-power}
 use Rattle.blocks.proofs.Accept.{packable-packs}
 use Rattle.packer.specs.Program.{firstWords, wordsOf, packerNumber, packerBlock, Answers}
-use Rattle.packer.specs.Inside.{WholeWords, Lent}
+use Rattle.packer.specs.Inside.{Lent}
 
 -- ---- words from bytes
 

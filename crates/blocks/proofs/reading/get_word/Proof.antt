@@ -4,8 +4,11 @@ use borrow.Author.Needs.{needs}
 use Rattle.blocks.proofs.reading.get_word.Statement.{statement}
 use Rattle.blocks.proofs.reading.get_word.Tie as tie
 
-decode-word-requires : tie.Need-decode-word-requires
-decode-word-requires c κs = search needs
+named-prediction-requires : tie.Need-named-prediction-requires
+named-prediction-requires c κs = search needs
+
+corrected-requires : tie.Need-corrected-requires
+corrected-requires c κs = search needs
 
 mul-words : tie.Need-mul-words
 mul-words c = search needs
@@ -13,11 +16,14 @@ mul-words c = search needs
 slice-write-words : tie.Need-slice-write-words
 slice-write-words c = search needs
 
+learn-requires : tie.Need-learn-requires
+learn-requires c κs = search needs
+
 written-requires : tie.Need-written-requires
 written-requires c κs = search needs
 
-add-t18 : tie.Need-add-t18
-add-t18 c = search needs
+add-t23 : tie.Need-add-t23
+add-t23 c = search needs
 
 same-length : tie.Need-same-length
 same-length c = search needs
@@ -30,20 +36,23 @@ same-length-3 c = search needs
 
 returns : tie.Need-returns
 returns c =
-    let at-decode-word = c .before .before .before .before .before .before in
-    let entry = at-decode-word .before .before .before .before .before .before .before .before in
-    let m = memory (entry .args .fcm .now) (entry .args .dfcm .now) (entry .args .place .carry) in
-    gets-word _ m (entry .args .block .now) (entry .args .place .at) _ _ _ _ _ _ _ (at-decode-word .decode-word .ensures) (c .written .ensures)
+    let at-learn = c .before .before .before .before .before in
+    let at-corrected = at-learn .before .before .before in
+    let at-named-prediction = at-corrected .before in
+    let entry = at-named-prediction .before .before .before .before .before .before .before .before in
+    gets-word _ (memory (entry .args .fcm .now) (entry .args .dfcm .now) (entry .args .place .carry)) (entry .args .block .now) (entry .args .place .at) (entry .args .code) _ _ _ _ _ _ _ _ (at-named-prediction .named-prediction .ensures) (at-corrected .corrected .ensures) (at-learn .learn .ensures) (c .written .ensures)
 
 pub get-word-spec : {M : Type 1} → statement M
 get-word-spec =
     tie.close
     (tie.spec
-    decode-word-requires
+    named-prediction-requires
+    corrected-requires
     mul-words
     slice-write-words
+    learn-requires
     written-requires
-    add-t18
+    add-t23
     same-length
     same-length-2
     same-length-3
