@@ -27,7 +27,7 @@ static const contender before[2] = {
     { "before", NULL, 16, before_pack, before_unpack },
 };
 
-enum { AFTER, PLAIN, EXPERT, BEFORE, CONTENDERS };
+enum { AFTER, INDEPENDENT, EXPERT, BEFORE, CONTENDERS };
 
 static int all_exact(const result *results, const char *input)
 {
@@ -44,15 +44,15 @@ static void write_row(FILE *to, const char *input, const result *r)
 {
     const result *e = &r[EXPERT];
     fprintf(to, "| %s | %u | %.2f | %.2f | **%.2f** | %.2f | %.2f | **%.2f** |\n", input, e->who->t,
-            r[PLAIN].pack_ns / e->pack_ns, r[BEFORE].pack_ns / e->pack_ns, r[AFTER].pack_ns / e->pack_ns,
-            r[PLAIN].unpack_ns / e->unpack_ns, r[BEFORE].unpack_ns / e->unpack_ns,
+            r[INDEPENDENT].pack_ns / e->pack_ns, r[BEFORE].pack_ns / e->pack_ns, r[AFTER].pack_ns / e->pack_ns,
+            r[INDEPENDENT].unpack_ns / e->unpack_ns, r[BEFORE].unpack_ns / e->unpack_ns,
             r[AFTER].unpack_ns / e->unpack_ns);
 }
 
 static int write_rows(FILE *to)
 {
     static uint64_t words[MOST_WORDS];
-    fprintf(to, "| input | t | pack: plain C | before | after | unpack: plain C | before | after |\n"
+    fprintf(to, "| input | t | pack: independent C | before | after | unpack: independent C | before | after |\n"
                 "|---|--:|--:|--:|--:|--:|--:|--:|\n");
     for (size_t i = 0; i < INPUTS; i++) {
         inputs[i].fill(words, MOST_WORDS);
@@ -82,6 +82,9 @@ int main(int argc, char **argv)
         return 3;
     }
     keep_memory();
+    if (!stores_agree()) {
+        return 1;
+    }
     FILE *to = fopen(argv[1], "w");
     if (to == NULL || !write_rows(to)) {
         return 1;

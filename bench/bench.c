@@ -2,6 +2,7 @@
  *
  * Writes nothing at all where a time would say nothing, or where the store and the two C versions of its
  * rules differ in a single byte. */
+#include "checks.h"
 #include "files.h"
 #include "inputs.h"
 #include "machine.h"
@@ -53,7 +54,7 @@ static int write_all(const char *table, const char *lines, const sheet *sheets, 
         return 0;
     }
     write_same_rules(to_table, sheets, number);
-    int whole = write_files(to_table);
+    int whole = write_checks(to_table) && write_files(to_table);
     write_general(to_table, sheets, number);
     write_lines(to_lines, sheets, number);
     return fclose(to_table) == 0 && fclose(to_lines) == 0 && whole;

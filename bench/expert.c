@@ -127,7 +127,7 @@ static size_t promised(const uint8_t *codes, size_t count)
     return count % 2 == 0 ? bytes : bytes + bytes_written((codes[count / 2] >> 4) & 7);
 }
 
-static uint32_t bad_block(const uint8_t *block, size_t block_len)
+uint32_t expert_check(const uint8_t *block, size_t block_len)
 {
     if (block_len < HEADER) {
         return 4;
@@ -180,7 +180,7 @@ uint32_t expert_unpack(const uint8_t *block, size_t block_len,
     if (bad_tables(fcm_len, dfcm_len)) {
         return 1;
     }
-    uint32_t bad = bad_block(block, block_len);
+    uint32_t bad = expert_check(block, block_len);
     if (bad != 0) {
         return bad;
     }

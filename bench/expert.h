@@ -14,4 +14,6 @@ uint32_t expert_unpack(const uint8_t *block, size_t block_len,
                        uint64_t *fcm, size_t fcm_len, uint64_t *dfcm, size_t dfcm_len,
                        uint64_t *words, size_t words_len, size_t *count);
 
+uint32_t expert_check(const uint8_t *block, size_t block_len);
+
 #endif

@@ -7,7 +7,7 @@
 
 #define ENTRIES 1024u
 #define SMALLEST_BLOCK 8u
-#define ROUNDS 400
+#define ROUNDS 2000
 
 static uint8_t file[COIL_MOST_FILE_BYTES];
 

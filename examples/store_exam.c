@@ -33,7 +33,7 @@ static void must_be(uint32_t expected, uint32_t answer, const char *what)
     }
 }
 
-/* A made map: the coil sees more of what is near. Outside a disc, about 80 % of the area, is air: 0.
+/* A made map: the coil sees more of what is near. Outside a disc is air, 0: about 80 % of the area.
  * Only +, -, * and / on doubles, so that C99 compilers agree on the bits. */
 static void make_map(unsigned coil)
 {

@@ -45,7 +45,7 @@
  * clears both before it uses them, so old content does not matter, and the same two tables can serve
  * every call, one call after the other. t = 10 (1,024 words, 8 KiB a table) is a fair start.
  *
- * TWO WARNINGS
+ * THREE WARNINGS
  *
  *   A block does not tell its t. Unpacking a block with tables of another size than it was packed with
  *   may answer 0 and give other words. So keep maps in exam files: a file tells its t, and coil_fetch
@@ -55,6 +55,10 @@
  *   can be in the residual bytes, the codes or the word count of a block, or in the file's t: then other
  *   words come out. It can be in a slot number or in the exam number: then the words answer to another
  *   slot or exam. Where storage can damage bytes, keep a checksum of your own.
+ *
+ *   A file that was cut short hardly ever opens, but it may: where a block's own bytes happen to end like
+ *   a file. Then coil_fetch refuses at least one of its slots. A block that was cut short is always
+ *   refused. docs/CUT_FILES.md has the details.
  */
 #ifndef COIL_H
 #define COIL_H
@@ -90,7 +94,8 @@ extern "C" {
  * the append is the new length, often much smaller. */
 #define COIL_APPEND_ROOM(length, n) ((size_t)(length) + 12 + COIL_WORST(n))
 
-/* Bytes of buffer in which k maps of at most n words can be kept, one append after the other. */
+/* Bytes of buffer in which k maps of at most n words can be kept, one append after the other. A file has at
+ * most COIL_MOST_ENTRIES maps and COIL_MOST_FILE_BYTES bytes: beyond that an append answers 12 or 3. */
 #define COIL_FILE_ROOM(k, n) (COIL_EMPTY_FILE + (size_t)(k) * COIL_APPEND_ROOM(0, n))
 
 /* ---- Numbers answered ------------------------------------------------------------------------- */

@@ -82,6 +82,6 @@ wait
 
 seen=$(cat "$build"/slip*.result | grep -c '^seen: ')
 cat "$build"/slip*.result | grep -v '^seen: ' | sed 's/^/FAILED can_fail: /'
-echo "can_fail: $slips wrong versions of the library, $seen of them seen by compare"
+echo "can_fail: $slips wrong versions of the reference, $seen of them seen by compare"
 echo "$seen passed, $((slips - seen)) failed"
 ((seen == slips))

@@ -97,8 +97,10 @@ int main(void)
                   { "coil_check", check }, { "coil_unpack", unpack } };
     unsigned passed = 0, failed = 0;
     size_t around = depth(nothing);
-    /* No two residuals alike, so that every way through the packer is taken. */
-    for (size_t i = 0; i < COUNT; i++)
+    /* Zeros, a ramp and residuals of every length, so that every way through the packer is taken. */
+    for (size_t i = 1000; i < 2000; i++)
+        words[i] = 7 * i;
+    for (size_t i = 2000; i < COUNT; i++)
         words[i] = UINT64_C(0x9E3779B97F4A7C15) * i >> (i % 8 * 8);
     for (size_t i = 0; i < sizeof calls / sizeof calls[0]; i++) {
         size_t used = depth(calls[i].call) - around;

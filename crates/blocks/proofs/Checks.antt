@@ -1,4 +1,4 @@
--- Checks in order, and what is left. Nothing else opens these definitions.
+-- Checks in order, and what is left.
 use mathlib.Core.Path.{_≡_, refl, ap, _∙_}
 use mathlib.Core.List.{List, [], _∷_, _++_}
 use mathlib.Core.Bool.{Bool, true, false}

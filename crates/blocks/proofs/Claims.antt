@@ -156,7 +156,7 @@ unpack-accepts {b} p = (
   (λ k. unpacks-number p ∙ unpackable-unpacks _ _ _ _ (record { sized = of-tables _ _ (k .tables); whole = sym (checks-number b) ∙ check-accepts b .1 (k .whole); room = k .room })),
 )
 
--- The tables' number is 0 just for tables of 2 ^ t words, with t from 0 to 16, and 1 for all others.
+-- The tables' number is 0 just for two tables of 2 ^ t words, with t from 0 to 16.
 pub tables-accepted : (fcm dfcm : List ℕ) → (tablesNumber (length fcm) (length dfcm) ≡ 0) ↔ Tables fcm dfcm
 tables-accepted fcm dfcm = ((λ e. tables-of fcm dfcm (tables-sized _ _ e)), (λ k. sym (sized-tables _ _ (of-tables fcm dfcm k))))
 
@@ -258,7 +258,7 @@ block-within-bound t ws h cut = omega (arith, block-closer t ws cut h, closer-at
 pub block-within-worst : (t : ℕ) (ws : List ℕ) → length (block t ws) ≤ worst (length ws)
 block-within-worst t ws = block-at-most t ws
 
--- The longest block of all has 557,064 bytes.
+-- So no block has more than 557,064 bytes.
 pub worst-of-all : worst 65536 ≡ 557064
 worst-of-all = refl
 

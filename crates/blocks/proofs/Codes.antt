@@ -1,4 +1,4 @@
--- The code of a word: the table, the choice, what is written. Nothing else opens these definitions.
+-- The code of a word: the tables, the choice, what is written. What the other proofs need of `lowThree` and `written` is here.
 use mathlib.Core.Path.{_≡_, refl, sym, ap, _∙_}
 use mathlib.Core.Bool.{Bool, true, false, cond}
 use mathlib.Core.List.{[], _∷_}

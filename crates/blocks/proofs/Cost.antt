@@ -1,4 +1,4 @@
--- What a word costs: no code and residual that read as the word cost less than those taken. Of the choice this knows only its two laws.
+-- What a word costs: no code and residual that read as the word cost less than those taken. Of what is chosen this needs only that it has no fewer leading zero bytes.
 use mathlib.Core.Path.{_≡_, refl, _∙_, subst}
 use Prim.Native.Nat.{ℕ, _+_, _-_, _/_, _%_, max, _^_, _≤_, _<_}
 use native.Mathlib.Omega.{arith}

@@ -12,7 +12,7 @@ use lib.Seq.{drop-cons, getD-drop, getD-take}
 use borrow.Author.Tests.{eq-eqb, ne-eqb}
 use Rattle.words.specs.Words.{xor}
 use Rattle.words.specs.Bytes.{field}
-use Rattle.blocks.specs.Predictors.{Memory, learn, after}
+use Rattle.blocks.specs.Predictors.{Memory, learn}
 use Rattle.blocks.specs.Codes.{written, decodedWord, decodedWords}
 use Rattle.blocks.specs.Block.{count, halves, countedCodes, lastHalf, residualLength, withResiduals}
 use Rattle.blocks.specs.Numbers.{fillerStands}

@@ -11,7 +11,7 @@ use Rattle.blocks.specs.Predictors.{Memory, cleared, learn, after}
 use Rattle.blocks.specs.Codes.{residualBytes, codedWord, codedWords}
 use Rattle.blocks.specs.Block.{codes, codeBytes, allResidualBytes, residualsAt, worst, block}
 use Rattle.blocks.specs.Numbers.{tOf}
-use Rattle.blocks.specs.Inside.{memory, Ready, StagesWord, StagesPair, Staged, MakesRoom, unpaired, Resting, Putting, Puts, Packable, PacksAll}
+use Rattle.blocks.specs.Inside.{memory, Ready, StagesWord, StagesPair, Flushable, MakesRoom, unpaired, Resting, Putting, Puts, Packable, PacksAll}
 use Rattle.blocks.specs.declared.predict.Carry.{Carry}
 use Rattle.blocks.specs.declared.Coded.{Coded}
 use Rattle.blocks.specs.declared.packing.Step.{Step}
@@ -76,7 +76,7 @@ going-starts ws f d out stage p =
     }
 
 module _ {ws f₀ d₀ out₀ f d out stage : List ℕ} {at staged : ℕ} {c : Carry} {k : ℕ} (room : worst (length ws) ≤ length out₀) (g : Going ws f₀ d₀ out₀ f d out stage at staged c k) where
-  pub going-staged : Staged out stage (record { at = at; staged = staged })
+  pub going-staged : Flushable out stage (record { at = at; staged = staged })
   going-staged = record { few = omega (arith, g .few, g .stageLong); room = omega (arith, g .to, g .upto, g .outLong, room) }
 
   -- making room moves staged bytes to their place and changes nothing else
@@ -194,7 +194,7 @@ module _ {ws f d out stage : List ℕ} {p : Rest} (q : Resting ws f d out stage 
   -- an odd count leaves the last word, which has a code byte of its own
   module _ (odd : length ws % 2 ≡ 0 → ⊥) {f' d' : List ℕ} (stage' : List ℕ) (r : Step)
       (s : StagesWord (tOf (length f)) (memory f d (p .carry)) (getD ws (length ws - 1) 0) stage (p .staged) f' d' stage' r) where
-    pub last-staged : (b : ℕ) → length stage' ≡ length stage → Staged (set out (8 + length ws / 2) b) stage' (record { at = p .at; staged = r .staged })
+    pub last-staged : (b : ℕ) → length stage' ≡ length stage → Flushable (set out (8 + length ws / 2) b) stage' (record { at = p .at; staged = r .staged })
     last-staged b l =
         let w = word-room s in
         record { few = omega (arith, l, q .stageLong, w, q .staged); room = omega (arith, length-set out (8 + length ws / 2) b, w, q .room) }

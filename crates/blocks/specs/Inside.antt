@@ -62,18 +62,18 @@ pub record StagesWord (t : ℕ) (m : Memory) (v : ℕ) (stage : List ℕ) (stage
   pub learnt : memory f d (r .carry) ≡ learn t m v
   pub bytes : Stages stage staged (residualBytes (codedWord m v)) stage' (r .staged)
 
--- two words were
+-- two words were coded, staged and learnt
 pub record StagesPair (t : ℕ) (m : Memory) (v w : ℕ) (stage : List ℕ) (staged : ℕ) (f d stage' : List ℕ) (r : Pair) : Type 0 where
   pub codes-are : r .codes ≡ codedWord m v .code * 16 + codedWord (learn t m v) w .code
   pub learnt : memory f d (r .carry) ≡ learn t (learn t m v) w
   pub bytes : Stages stage staged (residualBytes (codedWord m v) ++ residualBytes (codedWord (learn t m v) w)) stage' (r .staged)
 
--- what is staged has room at its place
-pub record Staged (out stage : List ℕ) (p : Pending) : Type 0 where
+-- what is staged can be copied out: it has room at its place
+pub record Flushable (out stage : List ℕ) (p : Pending) : Type 0 where
   pub few : p .staged ≤ length stage
   pub room : p .at + p .staged ≤ length out
 
--- room was made for two words more: what is staged is less, and what it comes to is the same
+-- there is room for two words more: some of what is staged may have been copied out, and what it comes to is the same
 pub record MakesRoom (out stage : List ℕ) (p : Pending) (out' : List ℕ) (r : Pending) : Type 0 where
   pub few : r .staged ≤ 496
   pub from : p .at ≤ r .at
@@ -102,18 +102,18 @@ pub record Packable (n f d bytes : ℕ) : Type 0 where
   pub few : n ≤ 65536
   pub room : worst n ≤ bytes
 
--- words are put, from the memory m to the tables f' and d': their code bytes at one place, their residual bytes at another, behind those that are staged
-pub record Puts (t : ℕ) (m : Memory) (words : List ℕ) (codesAt at : ℕ) (staged out f' d' out' : List ℕ) (end : ℕ) : Type 0 where
+-- words are put, from the memory m to the tables f' and d': their code bytes at one place, and at another first what is held back and then their residual bytes
+pub record Puts (t : ℕ) (m : Memory) (words : List ℕ) (codesAt at : ℕ) (held out f' d' out' : List ℕ) (end : ℕ) : Type 0 where
   pub fcm : f' ≡ after t m words .fcm
   pub dfcm : d' ≡ after t m words .dfcm
-  pub bytes : out' ≡ sets (sets out codesAt (codeBytes (codes (codedWords t m words)))) at (staged ++ allResidualBytes (codedWords t m words))
-  pub ends : end ≡ at + length (staged ++ allResidualBytes (codedWords t m words))
+  pub bytes : out' ≡ sets (sets out codesAt (codeBytes (codes (codedWords t m words)))) at (held ++ allResidualBytes (codedWords t m words))
+  pub ends : end ≡ at + length (held ++ allResidualBytes (codedWords t m words))
 
 -- the last word of an odd count, which no pair holds
 abbrev pub unpaired : List ℕ → List ℕ
 unpaired words = drop (2 * (length words / 2)) words
 
--- what the whole pairs leave can be put: the hashes are within the tables, and there is room for what is staged and a word more
+-- what the whole pairs leave can be put: the tables are ready, the stage has room for two words more, and the output for what is staged and, where the count is odd, for a word
 pub record Resting (words f d out stage : List ℕ) (r : Rest) : Type 0 where
   pub ready : Ready f d (r .carry)
   pub few : length words ≤ 65536

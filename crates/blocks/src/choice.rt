@@ -80,8 +80,8 @@ fn coded(dfcm: bool, zeros: u8, by_fcm: u64, by_dfcm: u64) -> Coded
 }
 
 // Of two residuals, neither of them 0, the chosen one with its code. The ladder is climbed once, for
-// the lesser. Words of noise have no zero byte and most unforeseen words of a map one or two, so these
-// go their own short ways.
+// the lesser. Noise mostly leaves no zero byte, and the words of a map that are not predicted mostly
+// leave one or two: these go short ways of their own.
 pub fn chosen(by_fcm: u64, by_dfcm: u64) -> Coded
     requires { ⌜ (0 < «by_fcm») × (0 < «by_dfcm») ⌝ }
     ensures { λ r. ⌜ r ≡ chosen «by_fcm» «by_dfcm» ⌝ }

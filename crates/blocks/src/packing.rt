@@ -10,7 +10,7 @@ ghost use Rattle.blocks.specs.Codes.{chosen};
 ghost use Rattle.blocks.specs.Block.{residualsAt};
 ghost use Rattle.blocks.specs.Numbers.{tOf};
 ghost use Rattle.blocks.specs.Calls.{Packs};
-ghost use Rattle.blocks.specs.Inside.{memory, Ready, StageRoom, StagesChosen, StagesWord, StagesPair, Staged, MakesRoom, Packable, unpaired, Resting, Putting, Puts, PacksAll};
+ghost use Rattle.blocks.specs.Inside.{memory, Ready, StageRoom, StagesChosen, StagesWord, StagesPair, Flushable, MakesRoom, Packable, unpaired, Resting, Putting, Puts, PacksAll};
 use crate::Packed;
 use crate::choice;
 use crate::numbers;
@@ -138,7 +138,7 @@ fn stage_pair(
 
 // Copies what is staged to its place, and answers where it ends.
 fn flush(out: &mut [u8], stage: &[u8], place: Pending) -> usize
-    requires { ⌜ Staged (now out) (now stage) place ⌝ }
+    requires { ⌜ Flushable (now out) (now stage) place ⌝ }
     ensures { λ r. ⌜ (r ≡ place .at + place .staged) × (now (out .exit) ≡ sets (now (out .entry)) (place .at) (take (place .staged) (now (stage .entry)))) ⌝ }
 {
     let staged = place.staged;
@@ -148,7 +148,7 @@ fn flush(out: &mut [u8], stage: &[u8], place: Pending) -> usize
 
 // Sees that two more words fit the stage.
 fn make_room(out: &mut [u8], stage: &[u8], place: Pending) -> Pending
-    requires { ⌜ Staged (now out) (now stage) place ⌝ }
+    requires { ⌜ Flushable (now out) (now stage) place ⌝ }
     ensures { λ r. ⌜ MakesRoom (now (out .entry)) (now (stage .entry)) place (now (out .exit)) r ⌝ }
 {
     if place.staged <= 496 {

@@ -51,19 +51,19 @@ fn both_written(byte: u8) -> u32
 }
 
 // How many residual bytes the counted codes have.
-fn residual_length(block: &[u8], codes: usize) -> usize
-    requires { ⌜ Counted (now block) codes ⌝ }
+fn residual_length(block: &[u8], n: usize) -> usize
+    requires { ⌜ Counted (now block) n ⌝ }
     ensures { λ r. ⌜ r ≡ residualLength (countedCodes (now (block .entry))) ⌝ }
 {
-    let pairs = codes / 2;
+    let pairs = n / 2;
     let mut sum: u32 = 0;
     let mut j = 0;
     while j < pairs {
         sum += both_written(block[8 + j]);
         j += 1;
     }
-    if codes % 2 == 1 {
-        return sum as usize + choice::written(half(block, codes - 1));
+    if n % 2 == 1 {
+        return sum as usize + choice::written(half(block, n - 1));
     }
     sum as usize
 }

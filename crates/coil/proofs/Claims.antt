@@ -2,14 +2,14 @@
 use mathlib.Core.Path.{_≡_, sym, ap, _∙_}
 use mathlib.Core.List.{List}
 use Prim.Native.Nat.{ℕ, _+_, _≤_, _<_}
-use lib.ListN.{take}
+use lib.ListN.{length, take}
 use Rattle.blocks.specs.declared.Packed.{Packed}
 use Rattle.blocks.specs.declared.Unpacked.{Unpacked}
-use Rattle.blocks.proofs.Claims.{pack-one-answer, unpack-one-answer, refused-pack-changes-nothing, refused-unpack-changes-nothing}
+use Rattle.blocks.proofs.Claims.{pack-one-answer, unpack-one-answer, pack-forgets, unpack-forgets, refused-pack-changes-nothing, refused-unpack-changes-nothing}
 use Rattle.exams.specs.Reading.{examIn}
 use Rattle.exams.specs.declared.Located.{Located}
 use Rattle.exams.specs.declared.Made.{Made}
-use Rattle.exams.proofs.Claims.{create-one-answer, fetch-one-answer, append-one-answer, refused-create-changes-nothing, refused-locate-tells-nothing, refused-fetch-changes-nothing, refused-append-changes-nothing, own-exam, located-has, fetch-accepts, append-accepts}
+use Rattle.exams.proofs.Claims.{create-one-answer, fetch-one-answer, append-one-answer, fetch-forgets, append-forgets, refused-create-changes-nothing, refused-locate-tells-nothing, refused-fetch-changes-nothing, refused-append-changes-nothing, own-exam, located-has, fetch-accepts, append-accepts}
 use Rattle.coil.specs.Calls.{CoilOpens, CoilChecks, CoilPacks, CoilUnpacks, CoilCreates, CoilFinds, CoilFetches, CoilAppends}
 
 -- ---- no second answer
@@ -65,33 +65,67 @@ coil-append-one-answer p q =
 
 -- ---- a refusal puts 0 into every lent number and leaves everything else as it was
 
--- coil_pack.
+-- A refused coil_pack.
 pub coil-refused-pack : {words fcm dfcm out f' d' out' : List ℕ} {r l : ℕ} → CoilPacks words fcm dfcm out r f' d' out' l → (r ≡ 0 → ⊥) → (l ≡ 0) × (f' ≡ fcm) × (d' ≡ dfcm) × (out' ≡ out)
 coil-refused-pack c h = refused-pack-changes-nothing c h
 
--- coil_unpack.
+-- A refused coil_unpack.
 pub coil-refused-unpack : {block fcm dfcm words f' d' w' : List ℕ} {r n : ℕ} → CoilUnpacks block fcm dfcm words r f' d' w' n → (r ≡ 0 → ⊥) → (n ≡ 0) × (f' ≡ fcm) × (d' ≡ dfcm) × (w' ≡ words)
 coil-refused-unpack c h = refused-unpack-changes-nothing c h
 
--- coil_create.
+-- A refused coil_create.
 pub coil-refused-create : {b b' : List ℕ} {exam t r l : ℕ} → CoilCreates b exam t r b' l → (r ≡ 0 → ⊥) → (l ≡ 0) × (b' ≡ b)
 coil-refused-create c h = refused-create-changes-nothing c h
 
--- coil_find.
+-- A refused coil_find, which is lent numbers alone.
 pub coil-refused-find : (b : List ℕ) (l exam slot : ℕ) {r offset size : ℕ} → CoilFinds b l exam slot r offset size → (r ≡ 0 → ⊥) → (offset ≡ 0) × (size ≡ 0)
 coil-refused-find b l exam slot c h =
     let a = refused-locate-tells-nothing b l exam slot (λ z. h (ap (λ (x : Located). x .number) c ∙ z)) in
     (ap (λ (x : Located). x .offset) c ∙ a .0, ap (λ (x : Located). x .size) c ∙ a .1)
 
--- coil_fetch.
+-- A refused coil_fetch.
 pub coil-refused-fetch : {b : List ℕ} {l exam slot : ℕ} {fcm dfcm words f' d' w' : List ℕ} {r n : ℕ} → CoilFetches b l exam slot fcm dfcm words r f' d' w' n → (r ≡ 0 → ⊥)
     → (n ≡ 0) × (f' ≡ fcm) × (d' ≡ dfcm) × (w' ≡ words)
 coil-refused-fetch c h = refused-fetch-changes-nothing c h
 
--- coil_append.
+-- A refused coil_append.
 pub coil-refused-append : {b : List ℕ} {l exam slot : ℕ} {words fcm dfcm bench b' f' d' n' : List ℕ} {r m : ℕ} → CoilAppends b l exam slot words fcm dfcm bench r b' f' d' n' m → (r ≡ 0 → ⊥)
     → (m ≡ 0) × (b' ≡ b) × (f' ≡ fcm) × (d' ≡ dfcm) × (n' ≡ bench)
 coil-refused-append c h = refused-append-changes-nothing c h
+
+-- ---- what the tables held before plays no part
+
+-- Two accepted runs of coil_pack, with tables of one size: answer, tables, output and length are equal.
+pub coil-pack-forgets : {words f₁ d₁ f₂ d₂ out f₁' d₁' f₂' d₂' o₁ o₂ : List ℕ} {r₁ l₁ r₂ l₂ : ℕ}
+    → CoilPacks words f₁ d₁ out r₁ f₁' d₁' o₁ l₁ → CoilPacks words f₂ d₂ out r₂ f₂' d₂' o₂ l₂ → length f₁ ≡ length f₂ → length d₁ ≡ length d₂ → r₁ ≡ 0
+    → (r₁ ≡ r₂) × (f₁' ≡ f₂') × (d₁' ≡ d₂') × (o₁ ≡ o₂) × (l₁ ≡ l₂)
+coil-pack-forgets p q e g z =
+    let a = pack-forgets p q e g z in
+    (ap (λ (x : Packed). x .number) (a .0), a .1, a .2, a .3, ap (λ (x : Packed). x .length) (a .0))
+
+-- Two accepted runs of coil_unpack: answer, tables, words and count are equal.
+pub coil-unpack-forgets : {b f₁ d₁ f₂ d₂ words f₁' d₁' f₂' d₂' w₁ w₂ : List ℕ} {r₁ n₁ r₂ n₂ : ℕ}
+    → CoilUnpacks b f₁ d₁ words r₁ f₁' d₁' w₁ n₁ → CoilUnpacks b f₂ d₂ words r₂ f₂' d₂' w₂ n₂ → length f₁ ≡ length f₂ → length d₁ ≡ length d₂ → r₁ ≡ 0
+    → (r₁ ≡ r₂) × (f₁' ≡ f₂') × (d₁' ≡ d₂') × (w₁ ≡ w₂) × (n₁ ≡ n₂)
+coil-unpack-forgets p q e g z =
+    let a = unpack-forgets p q e g z in
+    (ap (λ (x : Unpacked). x .number) (a .0), a .1, a .2, a .3, ap (λ (x : Unpacked). x .count) (a .0))
+
+-- Two accepted runs of coil_fetch: answer, tables, words and count are equal.
+pub coil-fetch-forgets : {b : List ℕ} {l exam slot : ℕ} {f₁ d₁ f₂ d₂ words f₁' d₁' f₂' d₂' w₁ w₂ : List ℕ} {r₁ n₁ r₂ n₂ : ℕ}
+    → CoilFetches b l exam slot f₁ d₁ words r₁ f₁' d₁' w₁ n₁ → CoilFetches b l exam slot f₂ d₂ words r₂ f₂' d₂' w₂ n₂ → length f₁ ≡ length f₂ → length d₁ ≡ length d₂ → r₁ ≡ 0
+    → (r₁ ≡ r₂) × (f₁' ≡ f₂') × (d₁' ≡ d₂') × (w₁ ≡ w₂) × (n₁ ≡ n₂)
+coil-fetch-forgets p q e g z =
+    let a = fetch-forgets p q e g z in
+    (ap (λ (x : Unpacked). x .number) (a .0), a .1, a .2, a .3, ap (λ (x : Unpacked). x .count) (a .0))
+
+-- Two accepted runs of coil_append: answer, buffer, tables, bench buffer and length are equal.
+pub coil-append-forgets : {b : List ℕ} {l exam slot : ℕ} {words f₁ d₁ f₂ d₂ bench b₁ f₁' d₁' n₁ b₂ f₂' d₂' n₂ : List ℕ} {r₁ l₁ r₂ l₂ : ℕ}
+    → CoilAppends b l exam slot words f₁ d₁ bench r₁ b₁ f₁' d₁' n₁ l₁ → CoilAppends b l exam slot words f₂ d₂ bench r₂ b₂ f₂' d₂' n₂ l₂ → length f₁ ≡ length f₂ → length d₁ ≡ length d₂ → r₁ ≡ 0
+    → (r₁ ≡ r₂) × (b₁ ≡ b₂) × (f₁' ≡ f₂') × (d₁' ≡ d₂') × (n₁ ≡ n₂) × (l₁ ≡ l₂)
+coil-append-forgets p q e g z =
+    let a = append-forgets p q e g z in
+    (ap (λ (x : Made). x .number) (a .0), a .1, a .2, a .3, a .4, ap (λ (x : Made). x .length) (a .0))
 
 -- ---- a file opens only for its own exam number
 

@@ -1,5 +1,5 @@
 // The calls of the store for C: each is the store's own call, with its number as the answer and what
-// it tells beside put through lent numbers. include/coil.h declares them.
+// else it tells put into lent numbers. include/coil.h declares them.
 ghost use Rattle.coil.specs.Calls.{CoilOpens, CoilChecks, CoilPacks, CoilUnpacks, CoilCreates, CoilFinds, CoilFetches, CoilAppends};
 
 // Opens the file in the first bytes of a buffer for an exam number, which must be its own.

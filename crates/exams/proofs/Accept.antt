@@ -254,6 +254,9 @@ pub fetches-number : {b : List ℕ} {l exam slot : ℕ} {fcm dfcm words f' d' w'
 unfolding unpacked
 fetches-number c = ap (λ (x : Unpacked). x .number) (c .answer)
 
+pub change-one-answer : {k : ℕ} {f : File} {b b₁ b₂ : List ℕ} {r₁ r₂ : Made} → Changes k f b r₁ b₁ → Changes k f b r₂ b₂ → (r₁ ≡ r₂) × (b₁ ≡ b₂)
+change-one-answer p q = (p .answer ∙ sym (q .answer), p .fileLeft ∙ sym (q .fileLeft))
+
 pub changes-number : {k : ℕ} {f : File} {b b' : List ℕ} {r : Made} → Changes k f b r b' → r .number ≡ k
 unfolding made
 changes-number c = ap (λ (x : Made). x .number) (c .answer)

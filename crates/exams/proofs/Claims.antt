@@ -13,17 +13,17 @@ use Rattle.blocks.specs.Numbers.{over, blockNumber}
 use Rattle.blocks.specs.Calls.{unpacked}
 use Rattle.blocks.specs.declared.Unpacked.{Unpacked}
 use Rattle.blocks.proofs.Checks.{afterwards-new, afterwards-old}
-use Rattle.exams.specs.File.{entry, File, fileLength, fileBytes, blockOf, empty, appended}
+use Rattle.exams.specs.File.{entry, File, fileLength, fileBytes, blockOf, appended}
 use Rattle.exams.specs.Reading.{tIn, examIn, distanceIn, entriesIn, lengthIn, fileIn, entryOf}
-use Rattle.exams.specs.Numbers.{directoryNumber, findNumber, blockIn}
-use Rattle.exams.specs.Calls.{opened, openedNumber, openedT, openedEntries, openedStart, Finds, located, fetchesNumber, Fetches, made, Changes, Creates, appendsNumber, Appends}
+use Rattle.exams.specs.Numbers.{openInNumber, directoryNumber, findNumber, blockIn}
+use Rattle.exams.specs.Calls.{opened, openedNumber, openedT, openedEntries, openedStart, Finds, located, fetchesNumber, Fetches, Creates, appendsNumber, Appends}
 use Rattle.exams.specs.Maps.{Map, fileOf}
 use Rattle.exams.specs.declared.Located.{Located}
 use Rattle.exams.specs.declared.Made.{Made}
 use Rattle.exams.specs.declared.Opened.{Opened}
 use Rattle.exams.specs.declared.Opened.the-variants.{Done, Refused}
 use Rattle.exams.proofs.Opens.{opens-in, t-in, body-long, entries-many}
-use Rattle.exams.proofs.Accept.{Follows, directory-follows, OpenTakes, open-takes, takes-open, FindTakes, find-takes, takes-find, FetchTakes, fetch-takes, takes-fetch, takes-create, AppendTakes, append-takes, takes-append, follows-directory, opened-number, opened-done, fetches-number, changes-number, changes-none}
+use Rattle.exams.proofs.Accept.{Follows, directory-follows, OpenTakes, open-takes, takes-open, FindTakes, find-takes, takes-find, FetchTakes, fetch-takes, takes-fetch, takes-create, AppendTakes, append-takes, takes-append, follows-directory, opened-number, opened-done, fetches-number, change-one-answer, changes-number, changes-none}
 use Rattle.exams.proofs.Writes.{CreateTakes, create-takes, length-file}
 use Rattle.exams.proofs.Maps.{Holds, holds-length, holds-parts, map-found, map-block, created-holds, appended-few, appended-holds, maps-open, map-answer, map-words, Fit, none-fit, fit-more, fit-at}
 use Rattle.exams.proofs.Cut.{never}
@@ -48,19 +48,23 @@ pub fetch-one-answer : {b : List ℕ} {l exam slot : ℕ} {fcm dfcm words f₁ d
     → Fetches b l exam slot fcm dfcm words r₁ f₁ d₁ w₁ → Fetches b l exam slot fcm dfcm words r₂ f₂ d₂ w₂ → (r₁ ≡ r₂) × (f₁ ≡ f₂) × (d₁ ≡ d₂) × (w₁ ≡ w₂)
 fetch-one-answer p q = (p .answer ∙ sym (q .answer), p .fcmLeft ∙ sym (q .fcmLeft), p .dfcmLeft ∙ sym (q .dfcmLeft), p .wordsLeft ∙ sym (q .wordsLeft))
 
--- Of create's answer and of the buffer, refused or not, the promise admits one value each. (So it is of every call that makes or changes a file.)
-pub create-one-answer : {k : ℕ} {f : File} {b b₁ b₂ : List ℕ} {r₁ r₂ : Made} → Changes k f b r₁ b₁ → Changes k f b r₂ b₂ → (r₁ ≡ r₂) × (b₁ ≡ b₂)
-create-one-answer p q = (p .answer ∙ sym (q .answer), p .fileLeft ∙ sym (q .fileLeft))
+-- Of create's answer and of the buffer, refused or not, the promise admits one value each.
+pub create-one-answer : {b b₁ b₂ : List ℕ} {exam t : ℕ} {r₁ r₂ : Made} → Creates b exam t r₁ b₁ → Creates b exam t r₂ b₂ → (r₁ ≡ r₂) × (b₁ ≡ b₂)
+create-one-answer p q = change-one-answer p q
 
 -- Of append's answer, of the file, of both tables and of the bench buffer, refused or not, the promise admits one value each.
 pub append-one-answer : {b : List ℕ} {l exam slot : ℕ} {words fcm dfcm bench b₁ f₁ d₁ n₁ b₂ f₂ d₂ n₂ : List ℕ} {r₁ r₂ : Made}
     → Appends b l exam slot words fcm dfcm bench r₁ b₁ f₁ d₁ n₁ → Appends b l exam slot words fcm dfcm bench r₂ b₂ f₂ d₂ n₂
     → (r₁ ≡ r₂) × (b₁ ≡ b₂) × (f₁ ≡ f₂) × (d₁ ≡ d₂) × (n₁ ≡ n₂)
 append-one-answer p q =
-    let f = create-one-answer (p .file) (q .file) in
+    let f = change-one-answer (p .file) (q .file) in
     (f .0, f .1, p .fcmLeft ∙ sym (q .fcmLeft), p .dfcmLeft ∙ sym (q .dfcmLeft), p .benchLeft ∙ sym (q .benchLeft))
 
 -- ---- when each call answers 0
+
+-- The number of open's answer is the one that find, fetch and append refuse by.
+pub open-refuses-for-all : (b : List ℕ) (l exam : ℕ) → openedNumber (opened b l exam) ≡ openInNumber b l exam
+open-refuses-for-all b l exam = opened-number b l exam
 
 -- Open answers the trailer just where it has what it needs.
 pub open-accepts : (b : List ℕ) (l exam : ℕ) → (openedNumber (opened b l exam) ≡ 0) ↔ OpenTakes b l exam

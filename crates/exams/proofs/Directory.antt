@@ -1,4 +1,4 @@
--- The directory: its entries one by one, and its rule. Nothing else opens `joins`, `editionKnown` and `directoryNumber`.
+-- The directory: its entries one by one, and its rule.
 use mathlib.Core.Path.{_≡_, refl, sym, ap, _∙_}
 use mathlib.Core.List.{List, [], _∷_, _++_}
 use mathlib.Core.Bool.{true, false}

@@ -1,4 +1,4 @@
--- Writing a trailer, an entry, an empty file. Nothing else opens `trailerBytes` and `entryBytes` but reading back.
+-- Writing a trailer, an entry, an empty file.
 use mathlib.Core.Path.{_≡_, refl, sym, _∙_}
 use mathlib.Core.List.{List, [], _∷_, _++_}
 use Prim.Native.Nat.{ℕ, _+_, _*_, _≤_, _<_}

@@ -39,7 +39,7 @@ fn fields_number(edition: u64, t: u64, distance: u64, entries: u64, stated: u64,
 }
 
 // The rules of the trailer, but for the exam number.
-pub fn trailer_number(file: &[u8]) -> u32
+fn trailer_number(file: &[u8]) -> u32
     ensures { λ r. ⌜ r ≡ trailerNumber (now (file .entry)) ⌝ }
 {
     let length = file.len();
@@ -70,7 +70,7 @@ fn joins(end: u64, next: u64) -> bool
 }
 
 // The directory's rule, over n entries at a place, where the directory itself starts at `to`.
-pub fn entries_number(file: &[u8], at: usize, n: usize, to: usize) -> u32
+fn entries_number(file: &[u8], at: usize, n: usize, to: usize) -> u32
     requires { ⌜ Entries (now file) at n ⌝ }
     ensures { λ r. ⌜ r ≡ entriesNumber 0 0 (entriesAt (now (file .entry)) at n) to ⌝ }
 {

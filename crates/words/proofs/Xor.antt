@@ -1,4 +1,4 @@
--- Xor undoes itself and keeps a word a word. Nothing else opens `xor`.
+-- Xor undoes itself and keeps a word a word.
 use mathlib.Core.Path.{_≡_, refl, sym, ap, ap₂, _∙_}
 use Prim.Native.Nat.{ℕ, zero, suc, _+_, _*_, _/_, _%_, _^_, _<_}
 use native.Mathlib.Omega.{arith}

@@ -1,4 +1,4 @@
--- Leading zero bytes. Nothing else opens `zeroBytes`.
+-- Leading zero bytes. No proof but the claims opens `zeroBytes` elsewhere.
 use mathlib.Core.Path.{_≡_, refl, sym, ap, _∙_}
 use mathlib.Core.Bool.{cond}
 use Prim.Native.Nat.{ℕ, zero, suc, _+_, _-_, _*_, _/_, _^_, _≤_, _<_}

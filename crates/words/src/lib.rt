@@ -16,8 +16,8 @@ pub fn under(r: u64, rung: u64) -> u8
     if r < rung { 1 } else { 0 }
 }
 
-// The leading zero bytes of a word: the rungs that it is under. They are added up, since a branch at
-// each rung would often be foretold wrongly.
+// The leading zero bytes of a word: the rungs that it is under. They are added up, since the processor
+// would often guess a branch wrongly.
 pub fn zero_bytes(r: u64) -> u8
     ensures { λ z. ⌜ z ≡ zeroBytes r ⌝ }
 {

@@ -20,8 +20,9 @@ stage-word-requires-2 c κs =
 
 mul-t24 : tie.Need-mul-t24
 mul-t24 c =
-    let at-stage-word = c .before .before .before .before .before .before .before .before .before .before .before .before .before .before .before .before .before .before .before in
-    omega (arith, word-code (at-stage-word .stage-word .ensures))
+    let at-stage-word2 = c .before .before .before .before .before .before .before .before in
+    let at-stage-word = at-stage-word2 .before .before .before .before .before .before .before .before .before .before .before in
+    omega (arith, word-code (at-stage-word .stage-word .ensures), word-code (at-stage-word2 .stage-word2 .ensures))
 
 add-t25 : tie.Need-add-t25
 add-t25 c =
