@@ -128,6 +128,18 @@ module _ (f d z l top res : ℕ) (b : Bool) (p : z ≡ zeroBytes (min f d)) (q :
   pub chosen-of-lesser : record { code = top + l; residual = res } ≡ chosen f d
   chosen-of-lesser = either b by-dfcm by-fcm
 
+-- so the low three bits of the chosen code are those of the lesser residual
+pub chosen-low : (f d z : ℕ) → z ≡ zeroBytes (min f d) → f < 2 ^ 64 → d < 2 ^ 64 → chosen f d .code % 8 ≡ lowThree z
+chosen-low f d z p hf hd =
+    let b = ltb (zeroBytes f) z in
+    let c : cond b 8 0 + lowThree z ≡ chosen f d .code = ap (λ (x : Coded). x .code) (chosen-of-lesser f d z (lowThree z) (cond b 8 0) (cond b d f) b p refl refl refl refl hf hd) in
+    let small = low-three-small z (omega (arith, p, zeros-at-most (min f d))) in
+    either b (λ t. omega (arith, rw t at c)) (λ t. omega (arith, rw t at c))
+
+-- up to three zero bytes, all others are written
+pub few-written : (f d z : ℕ) → z ≤ 3 → z ≡ zeroBytes (min f d) → f < 2 ^ 64 → d < 2 ^ 64 → 8 - z ≡ written (chosen f d .code)
+few-written f d z h p hf hd = omega (arith, written-is (chosen f d .code), chosen-low f d z p hf hd, low-three-is z (omega arith))
+
 -- of two residuals that aren't zero, the lesser has a byte that isn't
 pub lesser-some : (f d : ℕ) → 0 < f → 0 < d → f < 2 ^ 64 → zeroBytes (min f d) ≤ 7
 lesser-some f d a b h = zeros-some (min f d) (omega arith) (omega arith)

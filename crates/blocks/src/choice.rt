@@ -8,6 +8,12 @@ ghost use Rattle.words.specs.Words.{zeroBytes};
 ghost use Rattle.blocks.specs.Codes.{lowThree, written, chosen};
 use crate::Coded;
 
+// A residual with its code, and how many of its bytes are written.
+pub struct Priced {
+    pub coded: Coded,
+    pub bytes: usize,
+}
+
 // The top bit of a code.
 fn top_bit(dfcm: bool) -> u8
     ensures { λ r. ⌜ r ≡ cond dfcm 8 0 ⌝ }
@@ -82,21 +88,29 @@ fn coded(dfcm: bool, zeros: u8, by_fcm: u64, by_dfcm: u64) -> Coded
 // Of two residuals, neither of them 0, the chosen one with its code. The ladder is climbed once, for
 // the lesser. Noise mostly leaves no zero byte, and the words of a map that are not predicted mostly
 // leave one or two: these go short ways of their own.
-pub fn chosen(by_fcm: u64, by_dfcm: u64) -> Coded
+pub fn chosen(by_fcm: u64, by_dfcm: u64) -> Priced
     requires { ⌜ (0 < «by_fcm») × (0 < «by_dfcm») ⌝ }
-    ensures { λ r. ⌜ r ≡ chosen «by_fcm» «by_dfcm» ⌝ }
+    ensures { λ r. ⌜ (r .coded ≡ chosen «by_fcm» «by_dfcm») × (r .bytes ≡ written (r .coded .code)) ⌝ }
 {
     let least = lesser(by_fcm, by_dfcm);
     if 72057594037927936 <= least {
-        return Coded {
-            code: 0,
-            residual: by_fcm,
+        return Priced {
+            coded: Coded {
+                code: 0,
+                residual: by_fcm,
+            },
+            bytes: 8,
         };
     }
     if 1099511627776 <= least {
         let few = 1 + words::under(least, 281474976710656);
-        return coded(rung_above(least) <= by_fcm, few, by_fcm, by_dfcm);
+        return Priced {
+            coded: coded(rung_above(least) <= by_fcm, few, by_fcm, by_dfcm),
+            bytes: 8 - few as usize,
+        };
     }
     let zeros = words::zero_bytes(least);
-    coded(has_fewer(by_fcm, zeros), zeros, by_fcm, by_dfcm)
+    let coded = coded(has_fewer(by_fcm, zeros), zeros, by_fcm, by_dfcm);
+    let bytes = written(coded.code);
+    Priced { coded, bytes }
 }

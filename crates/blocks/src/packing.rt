@@ -79,11 +79,11 @@ fn stage_chosen(stage: &mut [u8], staged: usize, by_fcm: u64, by_dfcm: u64) -> S
     if by_dfcm == 0 {
         return Staging { code: 15, staged };
     }
-    let coded = choice::chosen(by_fcm, by_dfcm);
-    store_eight(stage, staged, coded.residual);
+    let priced = choice::chosen(by_fcm, by_dfcm);
+    store_eight(stage, staged, priced.coded.residual);
     Staging {
-        code: coded.code,
-        staged: staged + choice::written(coded.code),
+        code: priced.coded.code,
+        staged: staged + priced.bytes,
     }
 }
 
