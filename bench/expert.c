@@ -120,7 +120,7 @@ uint32_t expert_pack(const uint64_t *words, size_t words_len,
 /* The bytes that the codes promise. Plain sums, so that the compiler does many at a time. */
 static size_t promised(const uint8_t *codes, size_t count)
 {
-    size_t bytes = 0;
+    uint32_t bytes = 0;
     for (size_t i = 0; i < count / 2; i++) {
         bytes += bytes_written(codes[i] & 7) + bytes_written((codes[i] >> 4) & 7);
     }

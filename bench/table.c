@@ -37,9 +37,9 @@ static void write_same_rules_row(FILE *to, const sheet *s, const result *three)
 void write_same_rules(FILE *to, const sheet *sheets, size_t number)
 {
     fprintf(to, "### Against C for the same rules\n\n");
-    fprintf(to, "Times as ratios to those of expert C: below 1 is faster than expert C. Size as a part of the raw\n"
-                "bytes, the same for all three. All rows of an input have the same 65,536 words; \"words\" is how\n"
-                "many a call packs.\n\n");
+    fprintf(to, "Times as ratios to those of expert C: below 1 is faster than expert C. Size as a part of the raw bytes, "
+                "the same for\nall three. All rows of an input have the same 65,536 words; \"words\" is how many a "
+                "call packs.\n\n");
     fprintf(to, "| input | words | t | size | pack: store, ns a word | store | independent C "
                 "| unpack: store, ns a word | store | independent C |\n");
     fprintf(to, "|---|--:|--:|--:|--:|--:|--:|--:|--:|--:|\n");

@@ -150,7 +150,7 @@ uint32_t coil_pack(const uint64_t *words, size_t words_len,
  *   block, block_len   the bytes; read only
  *
  * Checks in order: 4 under 8 bytes; 2 declares more than 65,536 words; 5 length; 6 filler.
- * A block that passes is not refused by coil_unpack, given two tables of one size and the room. It need
+ * A block that passes is not refused by coil_unpack, given two valid tables and the room. It need
  * not be a block that coil_pack would write. The number of words it declares is its first 4 bytes, least
  * significant byte first: so much room coil_unpack asks for. */
 uint32_t coil_check(const uint8_t *block, size_t block_len);
@@ -200,7 +200,7 @@ uint32_t coil_create(uint8_t *file, size_t file_len, uint64_t exam, uint32_t t, 
  * A program that does not know the t of a file it has opened finds it in the 2 bytes from
  * file[length - 26], and the number of entries in the 4 bytes from file[length - 12], both least
  * significant byte first. The exam number is the 8 bytes from file[length - 24]; the entries, 12 bytes each,
- * slot first, end at file[length - 32]. docs/FORMAT.md has every byte. */
+ * slot first, end before file[length - 32]. docs/FORMAT.md has every byte. */
 uint32_t coil_open(const uint8_t *file, size_t file_len, size_t length, uint64_t exam);
 
 /* Find the block of a slot.
@@ -226,8 +226,8 @@ uint32_t coil_find(const uint8_t *file, size_t file_len, size_t length, uint64_t
  *                      significant byte first; COIL_MOST_WORDS are always enough
  *   count              becomes the number of words
  *
- * Checks in order: open (4, 7, 8, 9); 10 slot; 1 tables; the block's checks (2, 5, 6); 3 words_len
- * under the count.
+ * Checks in order: open (4, 7, 8, 9); 10 slot; 1 tables; the block's checks (2, 5, 6; not 4, since a block
+ * in a file has at least 8 bytes); 3 words_len under the count.
  * On success the first *count words are the result and the rest of words is as it was. */
 uint32_t coil_fetch(const uint8_t *file, size_t file_len, size_t length, uint64_t exam, uint32_t slot,
                     uint64_t *fcm, size_t fcm_len, uint64_t *dfcm, size_t dfcm_len,
