@@ -3,7 +3,6 @@
  * Linked with two objects of the store: the one of today under its own names, the earlier one with before_ in
  * front of each. */
 #include "inputs.h"
-#include "machine.h"
 #include "measure.h"
 #include "stores.h"
 
@@ -72,18 +71,13 @@ static int write_rows(FILE *to)
 
 int main(int argc, char **argv)
 {
-    const char *why = emulated();
     if (argc != 2) {
         fprintf(stderr, "usage: before TABLE\n");
         return 2;
     }
-    if (why != NULL) {
-        fprintf(stderr, "bench: nothing measured: %s, and a time under an emulator says nothing\n", why);
-        return 3;
-    }
-    keep_memory();
-    if (!stores_agree()) {
-        return 1;
+    int status = prepare();
+    if (status != 0) {
+        return status;
     }
     FILE *to = fopen(argv[1], "w");
     if (to == NULL || !write_rows(to)) {

@@ -5,7 +5,6 @@
 #include "checks.h"
 #include "files.h"
 #include "inputs.h"
-#include "machine.h"
 #include "measure.h"
 #include "table.h"
 
@@ -64,21 +63,15 @@ int main(int argc, char **argv)
 {
     static const size_t counts[] = { 4096, MOST_WORDS };
     static sheet sheets[2 * INPUTS];
-    const char *why = emulated();
     size_t number = 0;
     if (argc != 3) {
         fprintf(stderr, "usage: bench TABLE LINES\n");
         return 2;
     }
-    if (why != NULL) {
-        fprintf(stderr, "bench: nothing measured: %s, and a time under an emulator says nothing\n", why);
-        return 3;
+    int status = prepare();
+    if (status != 0) {
+        return status;
     }
-    keep_memory();
-    if (!stores_agree()) {
-        return 1;
-    }
-    fprintf(stderr, "bench: the store and both C versions agree on every input, t = 0 to 16\n");
     say_missing();
     for (size_t i = 0; i < INPUTS; i++) {
         for (size_t k = 0; k < 2; k++, number++) {

@@ -2,7 +2,9 @@
 #include "measure.h"
 #include "clock.h"
 #include "inputs.h"
+#include "machine.h"
 
+#include <stdio.h>
 #include <string.h>
 
 #ifdef __GLIBC__
@@ -17,12 +19,29 @@ static uint8_t packed[PACKED_ROOM];
 static size_t packed_length[MOST_WORDS];   /* of each piece */
 static uint64_t unpacked[MOST_WORDS];
 
-void keep_memory(void)
+/* Some contenders allocate in every call. Without this the C library hands large pieces back to the kernel
+ * each time, or not, by what ran before: their times would hang on the order of the contenders. */
+static void keep_memory(void)
 {
 #ifdef __GLIBC__
     mallopt(M_MMAP_THRESHOLD, 1 << 25);
     mallopt(M_TRIM_THRESHOLD, 1 << 28);
 #endif
+}
+
+int prepare(void)
+{
+    const char *why = emulated();
+    if (why != NULL) {
+        fprintf(stderr, "bench: nothing measured: %s, and a time under an emulator says nothing\n", why);
+        return 3;
+    }
+    keep_memory();
+    if (!stores_agree()) {
+        return 1;
+    }
+    fprintf(stderr, "bench: the store and both C versions agree on every input, t = 0 to 16\n");
+    return 0;
 }
 
 static job piece(const contender *c, const uint64_t *words, size_t count, size_t k)

@@ -14,10 +14,9 @@ typedef struct {
     double unpack_ns;
 } result;
 
-/* Some contenders allocate in every call. Without this the C library hands large pieces back to the kernel
- * each time, or not, by what ran before: their times would hang on the order of the contenders. To be called
- * first. */
-void keep_memory(void);
+/* To be called first. Answers 0, or the status to end with, having said why: 3 where a time would mean nothing,
+ * 1 where the store and the two C versions of its rules differ in a single byte. */
+int prepare(void);
 
 /* Cuts MOST_WORDS words into pieces of so many, each packed by a call of its own: so short and long calls are
  * held against each other on the same words. All contenders take turns, in rounds, so that each meets the same
