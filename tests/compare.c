@@ -59,6 +59,7 @@ int main(int count, char **arguments)
     signal(SIGSEGV, stopped_by_signal);
     signal(SIGBUS, stopped_by_signal);
     signal(SIGILL, stopped_by_signal);
+    signal(SIGFPE, stopped_by_signal);
     signal(SIGABRT, stopped_by_signal);
     prepare_calls(seed, count > 3 && strcmp(arguments[3], "first") == 0);
     printf("compare: rounds %lu, seed %lu\n", rounds, seed);
