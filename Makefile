@@ -3,9 +3,9 @@
 .PHONY: help demo lib test bench
 
 help:
-	@echo "make demo    prove and build the two programs, pack a sample map, list a sample exam (about 3 minutes)"
+	@echo "make demo    prove and build the two programs, pack a sample map, list a sample exam (about 2 minutes)"
 	@echo "make lib     prove and build libcoil.a for C (about 2 minutes)"
-	@echo "make test    the whole gate, the same as .ci/run (under 20 minutes)"
+	@echo "make test    the whole gate, the same as .ci/run (about 10 minutes)"
 	@echo "make bench   sizes and times beside other codecs (about 3 minutes the first time)"
 
 demo:
@@ -18,7 +18,7 @@ lib:
 	@echo "Link your program with target/staticlib/libcoil.a and include/coil.h."
 
 test:
-	@echo "Proving everything from nothing, trying every wrong version, then the tests from outside. Under 20 minutes."
+	@echo "Proving everything from nothing, trying every wrong version, then the tests from outside. About 10 minutes."
 	@bash .ci/run
 
 bench:

@@ -2,11 +2,11 @@
  *
  * Blocks, hashes and files worked by hand, the table of codes, round trips, and the room a block takes.
  */
+#include "hex.h"
 #include "reference.h"
 #include "words.h"
 
 #include <stdio.h>
-#include <stdlib.h>
 #include <string.h>
 
 #define MOST 400
@@ -29,18 +29,6 @@ static void holds(int right, const char *what)
         failed++;
         printf("FAILED %s\n", what);
     }
-}
-
-/* Reads "01 00 ff" and answers the number of bytes. */
-static size_t from_hex(const char *text, uint8_t *bytes)
-{
-    size_t count = 0;
-    char *end;
-    for (unsigned long value = strtoul(text, &end, 16); end != text; value = strtoul(text, &end, 16)) {
-        bytes[count++] = (uint8_t)value;
-        text = end;
-    }
-    return count;
 }
 
 static size_t pack(const uint64_t *words, size_t count, unsigned t)

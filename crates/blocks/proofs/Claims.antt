@@ -1,38 +1,24 @@
 -- What is promised of pack, check and unpack, each promise with one line of plain words.
-use mathlib.Core.Path.{_≡_, refl, sym, ap, _∙_}
+use mathlib.Core.Path.{_≡_, sym, ap, _∙_}
 use mathlib.Core.Logic.{_↔_}
-use mathlib.Core.List.{List, [], _∷_, _++_, map}
-use Prim.Native.Nat.{ℕ, _+_, _*_, _%_, _^_, _≤_, _<_}
-use native.Mathlib.Omega.{arith}
-use lib.Count.{leadingZeros}
-use lib.ListN.{length, take, drop, length-drop, take-append-drop}
-use Rattle.words.specs.Words.{Words, add64, sub64, shiftedLeft, shiftedRight, lowBits, xor, zeroBytes}
-use Rattle.blocks.specs.Predictors.{cleared, fcmPrediction, dfcmPrediction, difference, nextFcmHash, nextDfcmHash, learn}
-use Rattle.blocks.specs.Codes.{fcmResidual, dfcmResidual, dfcmChosen, lowThree, written, codedBy, chosen, codedWord, residualBytes}
-use Rattle.blocks.specs.Block.{block, body, worst, count, statedLength, residualsAt, countedCodes, lastHalf, residualLength, wordsIn}
-use Rattle.blocks.specs.Room.{Run, joined, Cut, ofEqualWords, runCost, bound, closerBound, Settles}
-use Rattle.blocks.specs.Numbers.{tOf, over, unless, firstFailure, afterwards, fillerStands, blockNumber, tablesNumber}
-use Rattle.blocks.specs.Calls.{packed, packsNumber, Packs, checked, unpacked, unpacksNumber, Unpacks}
-use Rattle.blocks.specs.Worked.{cases, made, worked}
-use Rattle.blocks.specs.declared.Packed.{Packed}
-use Rattle.blocks.specs.declared.Checked.{Checked}
-use Rattle.blocks.specs.declared.Unpacked.{Unpacked}
-use Rattle.blocks.proofs.Checks.{afterwards-old}
-use Rattle.blocks.proofs.Tables.{sized-power, t-of-power, tables-sized, sized-tables}
-use Rattle.blocks.proofs.GetLoop.{length-words}
-use Rattle.blocks.proofs.Accept.{packable, packable-packs, whole, whole-checks, unpackable, unpackable-unpacks, packs-number, checks-number, unpacks-number, packs-all-of, unpacks-all-of, unpacked-of, check-done, counted, too-short-for-codes, whole-alone, filler-needs, filler-has}
-use Rattle.blocks.proofs.Round.{block-count, block-whole, block-words, written-block}
-use Rattle.blocks.proofs.Put.{block-at-most}
-use Rattle.blocks.proofs.Settle.{update, settles}
-use Rattle.blocks.proofs.Runs.{block-closer, closer-at-most}
-use Rattle.blocks.specs.Inside.{Sized, PacksAll, UnpacksAll}
-
--- ---- the blocks worked by hand
-
--- Every case marked P comes out as it was worked by hand.
-pub worked-by-hand : map made cases ≡ map worked cases
-unfolding block body residualBytes codedWord chosen codedBy written lowThree dfcmChosen fcmResidual dfcmResidual learn nextFcmHash nextDfcmHash difference fcmPrediction dfcmPrediction cleared checked blockNumber fillerStands lastHalf countedCodes unless firstFailure afterwards add64 sub64 shiftedLeft shiftedRight lowBits xor zeroBytes leadingZeros
-worked-by-hand = refl
+use mathlib.Core.List.{List}
+use Prim.Native.Nat.{ℕ, _+_, _%_, _^_, _≤_}
+use lib.ListN.{length, take}
+use Rattle.words.specs.Words.{Words}
+use Rattle.answers.specs.Answers.{over}
+use Rattle.answers.proofs.Checks.{afterwards-old}
+use Rattle.block_rules.specs.Block.{worst, count, statedLength, residualsAt, countedCodes, lastHalf, residualLength}
+use Rattle.block_rules.specs.Room.{Cut, bound, closerBound}
+use Rattle.block_rules.specs.Calls.{packed, packsNumber, Packs, checked, unpacked, unpacksNumber, Unpacks}
+use Rattle.block_rules.specs.Numbers.{tOf, tablesNumber}
+use Rattle.block_rules.specs.Inside.{Sized, PacksAll, UnpacksAll}
+use Rattle.block_rules.specs.declared.Packed.{Packed}
+use Rattle.block_rules.specs.declared.Checked.{Checked}
+use Rattle.block_rules.specs.declared.Unpacked.{Unpacked}
+use Rattle.block_rules.proofs.Tables.{sized-power, tables-sized, sized-tables}
+use Rattle.block_rules.proofs.Accept.{packable, packable-packs, whole, whole-checks, unpackable, unpackable-unpacks, packs-number, checks-number, unpacks-number, packs-all-of, unpacks-all-of, unpacked-of, check-done, filler-needs, filler-has}
+use Rattle.block_rules.proofs.Round.{block-count, block-whole, block-words, written-block}
+use Rattle.block_rules.proofs.Claims.{block-within-bound, block-within-worst, block-within-closer-bound}
 
 -- ---- no second answer
 
@@ -60,11 +46,12 @@ unpack-one-answer p q = (
   p .wordsLeft ∙ sym (q .wordsLeft),
 )
 
--- Nor do the working halves, which other crates call where nothing is refused, admit a second answer.
+-- Nor does the working half of pack, which other crates call where nothing is refused, admit a second answer.
 pub pack-all-one-answer : {t : ℕ} {words old f₁ d₁ o₁ f₂ d₂ o₂ : List ℕ} {k₁ k₂ : ℕ}
     → PacksAll t words old f₁ d₁ o₁ k₁ → PacksAll t words old f₂ d₂ o₂ k₂ → (k₁ ≡ k₂) × (f₁ ≡ f₂) × (d₁ ≡ d₂) × (o₁ ≡ o₂)
 pack-all-one-answer p q = (p .size ∙ sym (q .size), p .fcm ∙ sym (q .fcm), p .dfcm ∙ sym (q .dfcm), p .out ∙ sym (q .out))
 
+-- Nor does that of unpack.
 pub unpack-all-one-answer : {t : ℕ} {b old f₁ d₁ w₁ f₂ d₂ w₂ : List ℕ} {k₁ k₂ : ℕ}
     → UnpacksAll t b old f₁ d₁ w₁ k₁ → UnpacksAll t b old f₂ d₂ w₂ k₂ → (k₁ ≡ k₂) × (f₁ ≡ f₂) × (d₁ ≡ d₂) × (w₁ ≡ w₂)
 unpack-all-one-answer p q = (p .count ∙ sym (q .count), p .fcm ∙ sym (q .fcm), p .dfcm ∙ sym (q .dfcm), p .words ∙ sym (q .words))
@@ -160,18 +147,6 @@ unpack-accepts {b} p = (
 pub tables-accepted : (fcm dfcm : List ℕ) → (tablesNumber (length fcm) (length dfcm) ≡ 0) ↔ Tables fcm dfcm
 tables-accepted fcm dfcm = ((λ e. tables-of fcm dfcm (tables-sized _ _ e)), (λ k. sym (sized-tables _ _ (of-tables fcm dfcm k))))
 
--- The t that is read off a table's length is its t.
-pub t-read-off : (t : ℕ) → t ≤ 16 → tOf (2 ^ t) ≡ t
-t-read-off t h = t-of-power t h
-
--- A block that is too short for the codes it counts answers 5.
-pub codes-need-room : (b : List ℕ) → 8 ≤ length b → count b ≤ 65536 → length b < residualsAt (count b) → checked b .number ≡ 5
-codes-need-room b h few l = checks-number b ∙ sym (too-short-for-codes b h few l)
-
--- An accepted block reads as many words as it counts, with tables of any size.
-pub words-counted : (t : ℕ) (b : List ℕ) → checked b .number ≡ 0 → length (wordsIn t b) ≡ count b
-words-counted t b e = length-words t b (count b) (counted b (count b) (sym (checks-number b) ∙ e) refl)
-
 -- ---- what the tables held before plays no part
 
 -- Two accepted runs of pack that differ in the tables' old content answer the same, write the same and leave equal tables.
@@ -236,35 +211,7 @@ round-trip {words} {fcm} h p e q lf ld l =
       g .dfcm ∙ rw back (sym (w .dfcm)),
     )
 
--- ---- nothing cut short, nothing added
-
--- No proper first part of an accepted block is accepted.
-pub no-first-part : (b : List ℕ) (k : ℕ) → checked b .number ≡ 0 → k < length b → checked (take k b) .number ≡ 0 → ⊥
-no-first-part b k e h f =
-    let z = whole-alone (take k b) (drop k b) (sym (checks-number (take k b)) ∙ f) (rw (take-append-drop k b) (sym (checks-number b) ∙ e)) in
-    omega (arith, length-drop k b)
-
--- No accepted block with bytes added is accepted.
-pub nothing-added : (b c : List ℕ) → checked b .number ≡ 0 → checked (b ++ c) .number ≡ 0 → 0 < length c → ⊥
-nothing-added b c e f h = omega (arith, whole-alone b c (sym (checks-number b) ∙ e) (sym (checks-number (b ++ c)) ∙ f))
-
 -- ---- how much room a block needs
-
--- Over every t, and however the words are cut into runs: a block's length is at most 8, plus n/2 rounded up, plus what each run may cost.
-pub block-within-bound : (t : ℕ) (ws : List ℕ) → Words ws → (cut : Cut ws) → length (block t ws) ≤ bound t ws cut
-block-within-bound t ws h cut = omega (arith, block-closer t ws cut h, closer-at-most t ws cut)
-
--- It never exceeds 8, plus n/2 rounded up, plus 8n.
-pub block-within-worst : (t : ℕ) (ws : List ℕ) → length (block t ws) ≤ worst (length ws)
-block-within-worst t ws = block-at-most t ws
-
--- So no block has more than 557,064 bytes.
-pub worst-of-all : worst 65536 ≡ 557064
-worst-of-all = refl
-
--- The two join run by run: a run of few words is charged 8 bytes a word where that is less.
-pub block-within-closer-bound : (t : ℕ) (ws : List ℕ) → Words ws → (cut : Cut ws) → length (block t ws) ≤ closerBound t ws cut
-block-within-closer-bound t ws h cut = block-closer t ws cut h
 
 -- The length that an accepted pack answers is within the bound, however its words are cut into runs.
 pub pack-within-bound : {words fcm dfcm out f' d' out' : List ℕ} {r : Packed} → Words words → Packs words fcm dfcm out r f' d' out' → r .number ≡ 0
@@ -280,31 +227,3 @@ pack-within-worst p e = rw (packs-all-of p e .size) (block-within-worst _ _)
 pub pack-within-closer-bound : {words fcm dfcm out f' d' out' : List ℕ} {r : Packed} → Words words → Packs words fcm dfcm out r f' d' out' → r .number ≡ 0
     → (cut : Cut words) → r .length ≤ closerBound (tOf (length fcm)) words cut
 pack-within-closer-bound h p e cut = rw (packs-all-of p e .size) (block-within-closer-bound _ _ h cut)
-
--- three equal words
-abbrev pub three : List ℕ
-three = 0x3FF0_0000_0000_0000 ∷ 0x3FF0_0000_0000_0000 ∷ 0x3FF0_0000_0000_0000 ∷ []
-
--- as one run
-abbrev pub oneRun : List Run
-oneRun = record { first = 0x3FF0_0000_0000_0000; difference = 0; count = 3 } ∷ []
-
--- The three equal words are one run.
-pub one-run-is-three : joined oneRun ≡ three
-unfolding add64
-one-run-is-three = refl
-
--- The bound is met exactly: three equal words at t = 6, as one run, take all the room that it gives.
-pub bound-is-met : length (block 6 three) ≡ bound 6 three (record { runs = oneRun; whole = one-run-is-three })
-unfolding block body residualBytes codedWord chosen codedBy written lowThree dfcmChosen fcmResidual dfcmResidual learn nextFcmHash nextDfcmHash difference fcmPrediction dfcmPrediction cleared add64 sub64 shiftedLeft shiftedRight lowBits xor zeroBytes leadingZeros runCost ofEqualWords
-bound-is-met = refl
-
--- As many words as shift the old bits out, all equal, settle the fcm hash: it no longer depends on what it was, and stays.
-pub fcm-hash-settles : (t v k : ℕ) → t ≤ 6 * k → Settles (λ h. nextFcmHash t h v) t k
-unfolding nextFcmHash update
-fcm-hash-settles t v k h = settles 6 t (shiftedRight 48 v) k h
-
--- So do as many differences, all equal, for the dfcm hash.
-pub dfcm-hash-settles : (t d k : ℕ) → t ≤ 2 * k → Settles (λ h. nextDfcmHash t h d) t k
-unfolding nextDfcmHash update
-dfcm-hash-settles t d k h = settles 2 t (shiftedRight 40 d) k h

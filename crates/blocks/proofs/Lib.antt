@@ -1,15 +1,1 @@
-pub mod Checks
-pub mod Tables
-pub mod Codes
-pub mod Learn
-pub mod Put
-pub mod Stage
-pub mod PutLoop
-pub mod Accept
-pub mod Get
-pub mod GetLoop
-pub mod Round
-pub mod Cost
-pub mod Settle
-pub mod Runs
 pub mod Claims

@@ -1,6 +1,6 @@
-// The checks that need no more than lengths.
+// The numbers that packing and unpacking answer.
 ghost use mathlib.Core.Path.{_≡_};
-ghost use Rattle.blocks.specs.Numbers.{isTableLength, tablesNumber, packNumber};
+ghost use Rattle.block_rules.specs.Numbers.{isTableLength, tablesNumber, packNumber, unpackNumber};
 
 // Whether a table may have n words: a power of two from 1 to 65,536.
 fn is_table_length(n: usize) -> bool
@@ -14,7 +14,7 @@ fn is_table_length(n: usize) -> bool
 }
 
 // 1 where the tables differ in length or are no tables, else 0.
-pub fn tables_number(fcm: usize, dfcm: usize) -> u32
+fn tables_number(fcm: usize, dfcm: usize) -> u32
     ensures { λ r. ⌜ r ≡ tablesNumber fcm dfcm ⌝ }
 {
     if fcm != dfcm {
@@ -38,6 +38,24 @@ pub fn pack_number(count: usize, fcm: usize, dfcm: usize, room: usize) -> u32
         return 2;
     }
     if room < 8 + (count + 1) / 2 + 8 * count {
+        return 3;
+    }
+    0
+}
+
+// The number that unpack answers.
+pub fn unpack_number(block: &[u8], fcm: usize, dfcm: usize, room: usize) -> u32
+    ensures { λ r. ⌜ r ≡ unpackNumber (now (block .entry)) fcm dfcm room ⌝ }
+{
+    let tables = tables_number(fcm, dfcm);
+    if tables != 0 {
+        return tables;
+    }
+    let number = block_checking::block_number(block);
+    if number != 0 {
+        return number;
+    }
+    if room < block_checking::count(block) {
         return 3;
     }
     0

@@ -3,12 +3,12 @@ use mathlib.Core.Path.{_≡_, sym, ap, _∙_}
 use mathlib.Core.List.{List}
 use Prim.Native.Nat.{ℕ, _+_, _≤_, _<_}
 use lib.ListN.{length, take}
-use Rattle.blocks.specs.declared.Packed.{Packed}
-use Rattle.blocks.specs.declared.Unpacked.{Unpacked}
+use Rattle.block_rules.specs.declared.Packed.{Packed}
+use Rattle.block_rules.specs.declared.Unpacked.{Unpacked}
 use Rattle.blocks.proofs.Claims.{pack-one-answer, unpack-one-answer, pack-forgets, unpack-forgets, refused-pack-changes-nothing, refused-unpack-changes-nothing}
-use Rattle.exams.specs.Reading.{examIn}
-use Rattle.exams.specs.declared.Located.{Located}
-use Rattle.exams.specs.declared.Made.{Made}
+use Rattle.exam_rules.specs.Reading.{examIn}
+use Rattle.exam_rules.specs.declared.Located.{Located}
+use Rattle.exam_rules.specs.declared.Made.{Made}
 use Rattle.exams.proofs.Claims.{create-one-answer, fetch-one-answer, append-one-answer, fetch-forgets, append-forgets, refused-create-changes-nothing, refused-locate-tells-nothing, refused-fetch-changes-nothing, refused-append-changes-nothing, own-exam, located-has, fetch-accepts, append-accepts}
 use Rattle.coil.specs.Calls.{CoilOpens, CoilChecks, CoilPacks, CoilUnpacks, CoilCreates, CoilFinds, CoilFetches, CoilAppends}
 

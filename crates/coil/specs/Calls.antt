@@ -2,8 +2,8 @@
 use mathlib.Core.Path.{_≡_}
 use Prim.Native.Nat.{ℕ}
 use mathlib.Core.List.{List}
-use Rattle.blocks.specs.Calls.{Packs, checked, Unpacks}
-use Rattle.exams.specs.Calls.{opened, openedNumber, located, Fetches, Creates, Appends}
+use Rattle.block_rules.specs.Calls.{Packs, checked, Unpacks}
+use Rattle.exam_rules.specs.Calls.{opened, openedNumber, located, Fetches, Creates, Appends}
 
 -- coil_open(file, length, exam): open's number alone
 abbrev pub CoilOpens : List ℕ → (length exam : ℕ) → (r : ℕ) → Type 0

@@ -1,33 +1,36 @@
 -- What is promised of create, open, find, locate, fetch and append, each promise with one line of plain words.
 use mathlib.Core.Path.{_≡_, refl, sym, ap, _∙_}
 use mathlib.Core.Logic.{_↔_}
-use mathlib.Core.List.{List, [], _∷_, _++_}
+use mathlib.Core.List.{List, [], _∷_, _++_, map, map-append}
 use Prim.Native.Nat.{ℕ, _+_, _^_, _≤_, _<_}
 use native.Mathlib.Omega.{arith}
 use lib.ListN.{length, getD, take, drop}
-use lib.Seq.{take-take}
 use Rattle.words.specs.Words.{Words}
 use Rattle.words.specs.Bytes.{Bytes}
-use Rattle.blocks.specs.Block.{block, count}
-use Rattle.blocks.specs.Numbers.{over, blockNumber}
-use Rattle.blocks.specs.Calls.{unpacked}
-use Rattle.blocks.specs.declared.Unpacked.{Unpacked}
-use Rattle.blocks.proofs.Checks.{afterwards-new, afterwards-old}
-use Rattle.exams.specs.File.{entry, File, fileLength, fileBytes, blockOf, appended}
-use Rattle.exams.specs.Reading.{tIn, examIn, distanceIn, entriesIn, lengthIn, fileIn, entryOf}
-use Rattle.exams.specs.Numbers.{openInNumber, directoryNumber, findNumber, blockIn}
-use Rattle.exams.specs.Calls.{opened, openedNumber, openedT, openedEntries, openedStart, Finds, located, fetchesNumber, Fetches, Creates, appendsNumber, Appends}
-use Rattle.exams.specs.Maps.{Map, fileOf}
-use Rattle.exams.specs.declared.Located.{Located}
-use Rattle.exams.specs.declared.Made.{Made}
-use Rattle.exams.specs.declared.Opened.{Opened}
-use Rattle.exams.specs.declared.Opened.the-variants.{Done, Refused}
-use Rattle.exams.proofs.Opens.{opens-in, t-in, body-long, entries-many}
-use Rattle.exams.proofs.Accept.{Follows, directory-follows, OpenTakes, open-takes, takes-open, FindTakes, find-takes, takes-find, FetchTakes, fetch-takes, takes-fetch, takes-create, AppendTakes, append-takes, takes-append, follows-directory, opened-number, opened-done, fetches-number, change-one-answer, changes-number, changes-none}
-use Rattle.exams.proofs.Writes.{CreateTakes, create-takes, length-file}
-use Rattle.exams.proofs.Maps.{Holds, holds-length, holds-parts, map-found, map-block, created-holds, appended-few, appended-holds, maps-open, map-answer, map-words, Fit, none-fit, fit-more, fit-at}
-use Rattle.exams.proofs.Cut.{never}
-use Rattle.exams.proofs.Kept.{found-long, found-size, found-within, found-part, more-holds, more-opens, slot-kept}
+use Rattle.words.proofs.Each.{Each, none, each-more, each-at}
+use Rattle.answers.specs.Answers.{over}
+use Rattle.answers.proofs.Checks.{afterwards-new, afterwards-old}
+use Rattle.block_rules.specs.Block.{block}
+use Rattle.block_rules.specs.Calls.{unpacked}
+use Rattle.block_rules.specs.Numbers.{blockNumber}
+use Rattle.block_rules.specs.declared.Unpacked.{Unpacked}
+use Rattle.exam_rules.specs.File.{entry, fileLength, fileBytes, blockOf, appended}
+use Rattle.exam_rules.specs.Reading.{tIn, examIn, distanceIn, entriesIn, lengthIn, fileIn, entryOf}
+use Rattle.exam_rules.specs.Numbers.{openInNumber, findNumber, blockIn}
+use Rattle.exam_rules.specs.Calls.{opened, openedNumber, openedT, openedEntries, openedStart, Finds, located, fetchesNumber, Fetches, Creates, appendsNumber, Appends}
+use Rattle.exam_rules.specs.Maps.{Map, pieceOf, fileOf}
+use Rattle.exam_rules.specs.declared.Located.{Located}
+use Rattle.exam_rules.specs.declared.Made.{Made}
+use Rattle.exam_rules.specs.declared.Opened.{Opened}
+use Rattle.exam_rules.specs.declared.Opened.the-variants.{Done, Refused}
+use Rattle.exam_rules.proofs.Opens.{opens-in, t-in, body-long, entries-many}
+use Rattle.exam_rules.proofs.Changes.{change-one-answer, changes-number, changes-none}
+use Rattle.exam_rules.proofs.Accept.{OpenTakes, open-takes, takes-open, FindTakes, find-takes, takes-find, FetchTakes, fetch-takes, takes-fetch, takes-create, AppendTakes, append-takes, takes-append, opened-number, opened-done, fetches-number, CreateTakes, create-takes}
+use Rattle.exam_rules.proofs.Holds.{Holds, holds-length, holds-parts, holds-opens}
+use Rattle.exam_rules.proofs.Pieces.{created-pieces, appended-pieces, piece-found, piece-block, piece-fetched}
+use Rattle.exam_rules.proofs.Maps.{Fit, map-reads, maps-whole, maps-piece}
+use Rattle.exam_rules.proofs.Cut.{never}
+use Rattle.exam_rules.proofs.Kept.{found-long, found-size, found-within, found-part, more-holds, more-opens, slot-kept}
 
 -- ---- no second answer
 
@@ -104,11 +107,6 @@ append-accepts {words} {fcm} {dfcm} {bench} c = (
   (λ k. changes-number (c .file) ∙ takes-append _ _ _ _ words fcm dfcm bench k),
 )
 
--- The directory's rule is what it says: slots strictly ascend, the first offset is 0, each next offset is the previous offset plus length, each length is
--- at least 8, and the last block ends where the directory starts.
-pub directory-rule : (f : File) → (directoryNumber f ≡ 0) ↔ Follows 0 0 (f .entries) (length (f .body))
-directory-rule f = (directory-follows f, follows-directory f)
-
 -- ---- a file opens only for its own exam number
 
 -- Where open answers 0, the trailer's exam number is the one asked for, and not 0. (Find, fetch and append open first.)
@@ -158,8 +156,8 @@ pub data MadeOf (exam t : ℕ) : List Map → List ℕ → ℕ → Type 0 where
       → MadeOf exam t (ms ++ (record { slot = slot; words = words } ∷ [])) b' (r .length)
 
 made-holds : {exam t : ℕ} {ms : List Map} {b : List ℕ} {l : ℕ} → MadeOf exam t ms b l → Holds b l (fileOf exam t ms)
-made-holds (created w c e) = created-holds w c e
-made-holds {exam} {t} (grown {ms = ms} h s w c e) = appended-holds exam t ms (made-holds h) s c e
+made-holds (created w c e) = created-pieces w c e
+made-holds {exam} {t} (grown {ms = ms} h s w c e) = rw map-append (appended-pieces exam t (map (pieceOf t) ms) (made-holds h) s c e)
 
 -- Such a file is the bytes of its parts: the blocks of the maps in order, an entry for each, the trailer.
 pub made-is-its-parts : {exam t : ℕ} {ms : List Map} {b : List ℕ} {l : ℕ} → MadeOf exam t ms b l → (take l b ≡ fileBytes (fileOf exam t ms)) × (l ≡ fileLength (fileOf exam t ms))
@@ -167,20 +165,18 @@ made-is-its-parts m = let h = made-holds m in (h .bytes, holds-length h)
 
 -- Such a file opens for its exam number.
 pub made-opens : {exam t : ℕ} {ms : List Map} {b : List ℕ} {l : ℕ} → MadeOf exam t ms b l → openedNumber (opened b l exam) ≡ 0
-made-opens {exam} {b = b} {l} m = opened-number b l exam ∙ maps-open exam _ _ (made-holds m)
+made-opens {exam} {b = b} {l} m = opened-number b l exam ∙ holds-opens (made-holds m)
 
-made-fit : {exam t : ℕ} {ms : List Map} {b : List ℕ} {l : ℕ} → MadeOf exam t ms b l → Fit ms
-made-fit (created w c e) = none-fit
-made-fit {exam} {t} (grown {ms = ms} h s w c e) =
-    fit-more _ (made-fit h) (record { few = appended-few exam t ms (made-holds h) s c e; wide = w })
+made-fit : {exam t : ℕ} {ms : List Map} {b : List ℕ} {l : ℕ} → MadeOf exam t ms b l → Each Fit ms
+made-fit (created w c e) = none
+made-fit (grown h s w c e) = each-more (made-fit h) (record { few = append-accepts c .0 e .fewWords; wide = w })
 
 -- Finding a slot of such a file hands back the block of the words that were appended there.
 pub made-finds : (first : List Map) (m : Map) (rest : List Map) {exam t : ℕ} {b : List ℕ} {l : ℕ} {part : List ℕ} {number : ℕ}
     → MadeOf exam t (first ++ m ∷ rest) b l → Finds b l exam (m .slot) part number → (number ≡ 0) × (part ≡ block t (m .words))
 made-finds first m rest {exam} {t} k c =
-    let h = made-holds k in
-    let z = map-found exam t first m rest h in
-    (c .numberLeft ∙ z, c .answer ∙ afterwards-new _ _ [] z ∙ map-block exam t first m rest h)
+    let h = maps-piece exam t first m rest (made-holds k) in
+    (c .numberLeft ∙ piece-found h, c .answer ∙ afterwards-new _ _ [] (piece-found h) ∙ piece-block h)
 
 -- Fetching a slot of such a file gives back exactly the words that were appended there: with tables of 2 ^ t words, whatever they hold, and whatever
 -- else the file holds.
@@ -189,9 +185,7 @@ pub made-fetches : (first : List Map) (m : Map) (rest : List Map) {exam t : ℕ}
     → length fcm ≡ 2 ^ t → length dfcm ≡ 2 ^ t → length (m .words) ≤ length room
     → (r ≡ record { number = 0; count = length (m .words) }) × (room' ≡ over (m .words) room)
 made-fetches first m rest {exam} {t} k c lf ld enough =
-    let h = made-holds k in
-    let fit = fit-at first m rest (made-fit k) in
-    (map-answer exam t first m rest h fit c lf ld enough, map-words exam t first m rest h fit c lf ld enough)
+    piece-fetched (maps-piece exam t first m rest (made-holds k)) (map-reads t m (each-at first m rest (made-fit k))) c lf ld enough
 
 -- ---- a refusal leaves everything as it was
 
@@ -295,8 +289,5 @@ fetched-is-whole c e = fetch-accepts c .0 e .whole
 -- never do all its slots unpack.
 pub cut-is-never-whole : {exam t : ℕ} {ms : List Map} {b : List ℕ} {l : ℕ} → MadeOf exam t ms b l → (k asked : ℕ) → k < l → openedNumber (opened b k asked) ≡ 0
     → ((i : ℕ) → i < length (fileIn (take k b) .entries) → blockNumber (blockOf (fileIn (take k b)) (getD (fileIn (take k b) .entries) i (entry 0 0 0))) ≡ 0) → ⊥
-cut-is-never-whole {exam} {t} {ms} {b} {l} m k asked short e w =
-    let h = made-holds m in
-    let p : take k b ≡ take k (fileBytes (fileOf exam t ms)) = sym (take-take k l b (omega arith)) ∙ ap (λ (x : List ℕ). take k x) (h .bytes) in
-    let o = opens-in b k asked (sym (opened-number b k asked) ∙ e) .is in
-    never exam t ms (h .good) (made-fit m) k asked (omega (arith, holds-length h, length-file (fileOf exam t ms))) (rw p at o) (rw p at w)
+cut-is-never-whole {exam} {t} {ms} {b} m k asked short e w =
+    never exam t (map (pieceOf t) ms) (made-holds m) (maps-whole t (made-fit m)) k asked short (sym (opened-number b k asked) ∙ e) w

@@ -1,12 +1,1 @@
-pub mod Directory
-pub mod Opens
-pub mod Scan
-pub mod Parts
-pub mod Writes
-pub mod Grow
-pub mod Back
-pub mod Maps
-pub mod Cut
-pub mod Accept
-pub mod Kept
 pub mod Claims

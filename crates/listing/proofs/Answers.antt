@@ -10,20 +10,20 @@ use lib.Seq.{take-length}
 use borrow.Author.Tests.{le-leb, lt-leb, leb-true}
 use Rattle.words.specs.Bytes.{Bytes}
 use Rattle.words.proofs.Bytes.{field-below}
-use Rattle.blocks.specs.Block.{count}
-use Rattle.blocks.specs.Numbers.{unless, firstFailure}
-use Rattle.blocks.proofs.Checks.{unless-holds, fails-here, fails-later, none-fails, last-decides, passes, stops, all-pass, afterwards-new, afterwards-old, sets-over}
-use Rattle.blocks.proofs.Accept.{whole}
-use Rattle.exams.specs.File.{File, blockOf}
-use Rattle.exams.specs.Reading.{trailerAt, examIn, tIn, entriesIn, directoryAt, entryAt, entriesAt, fileIn}
-use Rattle.exams.specs.Numbers.{trailerNumber, openNumber, openInNumber}
-use Rattle.exams.specs.Calls.{opened, openedNumber}
-use Rattle.exams.specs.declared.Trailer.{Trailer}
-use Rattle.exams.specs.declared.Opened.{Opened}
-use Rattle.exams.specs.declared.Opened.the-variants.{Done, Refused}
-use Rattle.exams.proofs.Directory.{length-entries}
-use Rattle.exams.proofs.Opens.{Trails, trails, trails-keep, t-in, body-long, entries-many, directory-is, opens, refused-tells, done-tells}
-use Rattle.exams.proofs.Accept.{opened-number}
+use Rattle.answers.specs.Answers.{unless, firstFailure}
+use Rattle.answers.proofs.Checks.{unless-holds, fails-here, fails-later, none-fails, last-decides, passes, stops, all-pass, afterwards-new, afterwards-old, sets-over}
+use Rattle.block_rules.specs.Block.{count}
+use Rattle.block_rules.proofs.Accept.{whole}
+use Rattle.exam_rules.specs.File.{File, blockOf}
+use Rattle.exam_rules.specs.Reading.{trailerAt, examIn, tIn, entriesIn, directoryAt, entryAt, entriesAt, fileIn}
+use Rattle.exam_rules.specs.Numbers.{trailerNumber, openNumber, openInNumber}
+use Rattle.exam_rules.specs.Calls.{opened, openedNumber}
+use Rattle.exam_rules.specs.declared.Trailer.{Trailer}
+use Rattle.exam_rules.specs.declared.Opened.{Opened}
+use Rattle.exam_rules.specs.declared.Opened.the-variants.{Done, Refused}
+use Rattle.exam_rules.proofs.Directory.{length-entries}
+use Rattle.exam_rules.proofs.Opens.{Trails, trails, trails-keep, t-in, body-long, entries-many, opens, refused-tells, done-tells}
+use Rattle.exam_rules.proofs.Accept.{opened-number}
 use Rattle.listing.specs.Text.{examLine, heading, slotLine, slotLines, listing, mostText}
 use Rattle.listing.specs.Numbers.{mostListed, blocksNumber, listNumber}
 use Rattle.listing.specs.Calls.{listed, listsNumber, Lists}
@@ -31,7 +31,7 @@ use Rattle.listing.specs.Inside.{Puts, Stands, Lining, Listable}
 use Rattle.listing.specs.declared.Listed.{Listed}
 use Rattle.listing.proofs.Decimals.{decimal-at-most}
 use Rattle.listing.proofs.Lines.{puts-long, and-then, length-exam-line, length-slot-line}
-use Rattle.listing.proofs.Walks.{Blocks, rule-blocks, first-within, blocks-after}
+use Rattle.listing.proofs.Walks.{Blocks, directory-blocks, first-within, blocks-after}
 
 -- ---- the number
 
@@ -175,7 +175,7 @@ listing-within f room b t =
       n,
       length-listing (fileIn f),
       exam-line-within (examIn f) (tIn f) (length (fileIn f .entries)) (field-below 8 (trailerAt f + 8) f b) (r .t) (omega (arith, n, r .few)),
-      lines-within f b (omega (arith, t .small)) (entriesIn f) (directoryAt f) (rule-blocks 0 0 _ _ (sym (directory-is f) ∙ o .directory)) (t .blocks),
+      lines-within f b (omega (arith, t .small)) (entriesIn f) (directoryAt f) (directory-blocks f (o .directory)) (t .blocks),
     )
 
 pub most-text : (f : List ℕ) → openNumber f (examIn f) ≡ 0 → mostText (length (fileIn f .entries)) ≤ 23618

@@ -6,26 +6,27 @@ use Prim.Native.Nat.{ℕ, _+_, _*_, _^_, _≤_, _<_}
 use lib.ListN.{length, getD, take}
 use lib.Seq.{take-at}
 use lib.Count.{leadingZeros}
-use Rattle.words.specs.Bytes.{Bytes}
 use Rattle.words.specs.Words.{add64, sub64, shiftedLeft, shiftedRight, lowBits, xor, zeroBytes}
-use Rattle.blocks.specs.Predictors.{cleared, fcmPrediction, dfcmPrediction, difference, nextFcmHash, nextDfcmHash, learn}
-use Rattle.blocks.specs.Block.{block, body, countedCodes, lastHalf}
-use Rattle.blocks.specs.Codes.{fcmResidual, dfcmResidual, dfcmChosen, lowThree, written, codedBy, chosen, codedWord, residualBytes}
-use Rattle.blocks.specs.Numbers.{unless, firstFailure, fillerStands, blockNumber}
-use Rattle.blocks.specs.Calls.{checked}
-use Rattle.blocks.proofs.Checks.{afterwards-new, afterwards-old, told-within}
-use Rattle.blocks.proofs.Accept.{checks-number}
-use Rattle.exams.specs.File.{entry, entryBytes, trailerBytes, fileBytes, blockOf, empty, appended}
-use Rattle.exams.specs.Reading.{examIn, entryAt, fileIn}
-use Rattle.exams.specs.Numbers.{editionKnown, joins, directoryNumber, fieldsNumber, trailerNumber, openNumber}
-use Rattle.exams.specs.Calls.{opened, openedNumber}
+use Rattle.words.specs.Bytes.{Bytes}
+use Rattle.answers.specs.Answers.{unless, firstFailure}
+use Rattle.answers.proofs.Checks.{afterwards-new, afterwards-old, told-within}
+use Rattle.block_rules.specs.Predictors.{cleared, fcmPrediction, dfcmPrediction, difference, nextFcmHash, nextDfcmHash, learn}
+use Rattle.block_rules.specs.Codes.{fcmResidual, dfcmResidual, dfcmChosen, lowThree, written, codedBy, chosen, codedWord, residualBytes}
+use Rattle.block_rules.specs.Block.{arranged, block, body, countedCodes, lastHalf}
+use Rattle.block_rules.specs.Calls.{checked}
+use Rattle.block_rules.specs.Numbers.{fillerStands, blockNumber}
+use Rattle.block_rules.proofs.Accept.{checks-number}
+use Rattle.exam_rules.specs.File.{entry, entryBytes, trailerBytes, fileBytes, blockOf, empty, appended}
+use Rattle.exam_rules.specs.Reading.{examIn, entryAt, fileIn}
+use Rattle.exam_rules.specs.Numbers.{editionKnown, joins, directoryNumber, fieldsNumber, trailerNumber, openNumber}
+use Rattle.exam_rules.specs.Calls.{opened, openedNumber}
 use Rattle.listing.specs.Text.{ascii, decimal, examLine, slotLine, listing, mostText}
 use Rattle.listing.specs.Numbers.{listNumber}
 use Rattle.listing.specs.Calls.{listed, listsNumber, Lists}
 use Rattle.listing.specs.declared.Listed.{Listed}
 use Rattle.listing.proofs.Decimals.{readOn, decimal-read, Digits, decimal-digits, decimal-first}
-use Rattle.listing.proofs.Answers.{opened-whole, takes, takes-keep, listing-within, most-text, lists-number}
 use Rattle.listing.proofs.Walks.{each-block, all-blocks}
+use Rattle.listing.proofs.Answers.{opened-whole, takes, takes-keep, listing-within, most-text, lists-number}
 
 -- ---- the file worked by hand
 
@@ -40,7 +41,7 @@ workedFile =
 
 -- It is the file that create and append make.
 pub worked-file : fileBytes (appended (empty 7 10) 3 (block 10 (0 ∷ []))) ≡ workedFile
-unfolding fileBytes entryBytes trailerBytes block body residualBytes codedWord chosen codedBy written lowThree dfcmChosen fcmResidual dfcmResidual learn nextFcmHash nextDfcmHash difference fcmPrediction dfcmPrediction cleared add64 sub64 shiftedLeft shiftedRight lowBits xor zeroBytes leadingZeros
+unfolding fileBytes entryBytes trailerBytes block arranged body residualBytes codedWord chosen codedBy written lowThree dfcmChosen fcmResidual dfcmResidual learn nextFcmHash nextDfcmHash difference fcmPrediction dfcmPrediction cleared add64 sub64 shiftedLeft shiftedRight lowBits xor zeroBytes leadingZeros
 worked-file = refl
 
 -- It lists as the three lines worked by hand.

@@ -5,7 +5,7 @@ use Prim.Native.Nat.{ℕ, _+_, _/_, _%_, _^_, _≤_, _<_}
 use native.Mathlib.Omega.{arith}
 use lib.ListN.{length, length-append}
 use lib.Seq.{length-sets}
-use Rattle.exams.proofs.Writes.{join}
+use Rattle.words.proofs.Stores.{join}
 use Rattle.listing.specs.Text.{digit, decimal, ascii, examLine, slotLine}
 use Rattle.listing.specs.Inside.{Puts}
 use Rattle.listing.proofs.Decimals.{decimal-one, decimal-more}

@@ -1,21 +1,22 @@
 -- The entries of an open file one after another: their blocks, the checks of these, and the lines.
 use mathlib.Core.Path.{_≡_, refl, sym, ap, _∙_}
 use mathlib.Core.List.{List, [], _∷_, _++_}
+use mathlib.Core.Bool.{Bool}
 use Prim.Native.Nat.{ℕ, zero, suc, _+_, _-_, _≤_, _<_}
 use native.Mathlib.Omega.{arith}
 use native.Mathlib.Nat.{sub-zero, add-zero}
 use lib.ListN.{length, getD, take, drop, length-append, length-drop}
 use lib.Seq.{length-take-le}
 use Rattle.words.specs.Bytes.{field}
-use Rattle.blocks.specs.Block.{count}
-use Rattle.blocks.specs.Numbers.{blockNumber}
-use Rattle.blocks.proofs.Checks.{fails-here, fails-later, none-fails, last-decides}
-use Rattle.exams.specs.File.{Entry, entry, File, blockOf}
-use Rattle.exams.specs.Reading.{directoryAt, entryAt, entriesAt, fileIn}
-use Rattle.exams.specs.Numbers.{entriesNumber}
-use Rattle.exams.proofs.Directory.{Place, place-starts, place-on, entries-next, entries-none, heads, ends-before}
-use Rattle.exams.proofs.Opens.{trails, trails-ends, directory-is, body-long}
-use Rattle.exams.proofs.Parts.{part-of-first}
+use Rattle.answers.proofs.Checks.{fails-here, fails-later, none-fails, last-decides}
+use Rattle.block_rules.specs.Block.{count}
+use Rattle.block_rules.specs.Numbers.{blockNumber}
+use Rattle.exam_rules.specs.File.{Entry, entry, File, blockOf}
+use Rattle.exam_rules.specs.Reading.{directoryAt, entriesIn, entryAt, entriesAt, fileIn}
+use Rattle.exam_rules.specs.Numbers.{entriesNumber, directoryNumber}
+use Rattle.exam_rules.proofs.Directory.{Place, place-starts, place-on, entries-next, entries-none, heads, Forward, ends-before, joins-forward}
+use Rattle.exam_rules.proofs.Opens.{trails, trails-ends, directory-is, body-long}
+use Rattle.exam_rules.proofs.Parts.{part-of-first}
 use Rattle.listing.specs.Text.{slotLine, slotLines}
 use Rattle.listing.specs.Numbers.{blocksNumber}
 use Rattle.listing.specs.Inside.{Puts, Points, Stands}
@@ -28,11 +29,14 @@ pub data Blocks (to : ℕ) : List Entry → Type 0 where
   none : Blocks to []
   more : {e : Entry} {es : List Entry} → 8 ≤ e .size → e .offset + e .size ≤ to → Blocks to es → Blocks to (e ∷ es)
 
-pub rule-blocks : (lowest from : ℕ) (es : List Entry) (to : ℕ) → entriesNumber lowest from es to ≡ 0 → Blocks to es
-rule-blocks lowest from [] to z = none
-rule-blocks lowest from (e ∷ es) to z =
-    let h = heads lowest from e es to z in
-    more (h .size) (ends-before _ _ es to (h .rest)) (rule-blocks _ _ es to (h .rest))
+rule-blocks : {test : ℕ → ℕ → Bool} → Forward test → (lowest from : ℕ) (es : List Entry) (to : ℕ) → entriesNumber test lowest from es to ≡ 0 → Blocks to es
+rule-blocks p lowest from [] to z = none
+rule-blocks {test} p lowest from (e ∷ es) to z =
+    let h = heads test lowest from e es to z in
+    more (h .size) (ends-before p _ _ es to (h .rest)) (rule-blocks p _ _ es to (h .rest))
+
+pub directory-blocks : (f : List ℕ) → directoryNumber (fileIn f) ≡ 0 → Blocks (directoryAt f) (entriesAt f (directoryAt f) (entriesIn f))
+directory-blocks f z = rule-blocks joins-forward 0 0 _ _ (sym (directory-is f) ∙ z)
 
 first-long : {to : ℕ} {e : Entry} {es : List Entry} → Blocks to (e ∷ es) → 8 ≤ e .size
 first-long (more l w b) = l
@@ -77,7 +81,7 @@ left-starts f start n s =
     record {
       stands = s;
       place-is = place-starts n start;
-      blocks = rw (sub-zero n, s .start-is, s .many) (rule-blocks 0 0 _ _ (sym (directory-is f) ∙ s .directory));
+      blocks = rw (sub-zero n, s .start-is, s .many) (directory-blocks f (s .directory));
     }
 
 module _ (f : List ℕ) (start n place i : ℕ) (h : i < n) (g : Left f start n place i) where

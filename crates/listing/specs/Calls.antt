@@ -3,8 +3,8 @@ use mathlib.Core.Path.{_≡_}
 use Prim.Native.Nat.{ℕ}
 use mathlib.Core.List.{List}
 use lib.ListN.{length}
-use Rattle.blocks.specs.Numbers.{afterwards, over}
-use Rattle.exams.specs.Reading.{fileIn}
+use Rattle.answers.specs.Answers.{afterwards, over}
+use Rattle.exam_rules.specs.Reading.{fileIn}
 use Rattle.listing.specs.Text.{listing}
 use Rattle.listing.specs.Numbers.{listNumber}
 use Rattle.listing.specs.declared.Listed.{Listed}

@@ -4,8 +4,8 @@ use Prim.Native.Nat.{ℕ, _+_, _≤_}
 use mathlib.Core.List.{List}
 use lib.ListN.{length}
 use lib.Seq.{sets}
-use Rattle.exams.specs.Reading.{directoryAt, entriesIn, entryAt, fileIn}
-use Rattle.exams.specs.Numbers.{trailerNumber, directoryNumber}
+use Rattle.exam_rules.specs.Reading.{directoryAt, entriesIn, entryAt, fileIn}
+use Rattle.exam_rules.specs.Numbers.{trailerNumber, directoryNumber}
 use Rattle.listing.specs.Text.{slotLines, listing}
 
 -- bytes are put into a list from a place on; they end where the next may start

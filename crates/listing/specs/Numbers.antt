@@ -3,10 +3,11 @@ use Prim.Native.Nat.{ℕ}
 use mathlib.Core.List.{List, [], _∷_}
 use lib.Dec.{leb}
 use lib.ListN.{length}
-use Rattle.blocks.specs.Numbers.{unless, firstFailure, blockNumber}
-use Rattle.exams.specs.File.{Entry, File, blockOf}
-use Rattle.exams.specs.Reading.{examIn, fileIn}
-use Rattle.exams.specs.Numbers.{openNumber}
+use Rattle.answers.specs.Answers.{unless, firstFailure}
+use Rattle.block_rules.specs.Numbers.{blockNumber}
+use Rattle.exam_rules.specs.File.{Entry, File, blockOf}
+use Rattle.exam_rules.specs.Reading.{examIn, fileIn}
+use Rattle.exam_rules.specs.Numbers.{openNumber}
 use Rattle.listing.specs.Text.{mostText}
 
 -- the lister takes a file of at most 65,536 bytes

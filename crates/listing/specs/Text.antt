@@ -6,8 +6,8 @@ use lib.Dec.{ltb}
 use lib.ListN.{length}
 use Prim.Native.String.{String, [] as []ˢ, _∷_ as _∷ˢ_}
 use Prim.Native.Char.{code}
-use Rattle.blocks.specs.Block.{count}
-use Rattle.exams.specs.File.{Entry, File, blockOf}
+use Rattle.block_rules.specs.Block.{count}
+use Rattle.exam_rules.specs.File.{Entry, File, blockOf}
 
 -- a number below 10 as a digit: `0` is 48
 abbrev pub digit : ℕ → List ℕ

@@ -1,10 +1,10 @@
 // The checks of a file that is to be listed.
 ghost use mathlib.Core.Path.{_≡_};
-ghost use Rattle.exams.specs.File.{blockOf};
-ghost use Rattle.exams.specs.Reading.{entryAt, fileIn};
+ghost use Rattle.exam_rules.specs.File.{blockOf};
+ghost use Rattle.exam_rules.specs.Reading.{entryAt, fileIn};
 ghost use Rattle.listing.specs.Numbers.{blocksNumber, listNumber};
 ghost use Rattle.listing.specs.Inside.{Points, Stands};
-use exams::Opened;
+use exam_rules::Opened;
 
 // The block of the entry at a place, as a part of the file.
 pub fn block_at(file: &[u8], place: usize) -> &[u8]
@@ -24,7 +24,7 @@ fn blocks_number(file: &[u8], start: usize, n: usize) -> u32
     let mut place = start;
     let mut i = 0;
     while i < n {
-        let number = blocks::block_number(block_at(file, place));
+        let number = block_checking::block_number(block_at(file, place));
         if number != 0 {
             return number;
         }
@@ -47,9 +47,9 @@ pub fn list_number(file: &[u8], room: usize) -> u32
         return 4;
     }
     let exam = words::get_bytes(file, length - 32 + 8, 8);
-    let answer = exams::open(file, length, exam);
+    let answer = exam_opening::open(file, length, exam);
     let Opened::Done(trailer) = answer else {
-        return exams::opened_number(answer);
+        return exam_opening::opened_number(answer);
     };
     let n = trailer.entries;
     let number = blocks_number(file, trailer.start, n);

@@ -2,7 +2,7 @@
 ghost use Prim.Native.Nat.{_+_, _≤_, _<_};
 ghost use mathlib.Core.List.{_++_};
 ghost use lib.ListN.{length};
-ghost use Rattle.exams.specs.Reading.{fileIn};
+ghost use Rattle.exam_rules.specs.Reading.{fileIn};
 ghost use Rattle.listing.specs.Text.{digit, decimal, examLine, slotLine, slotLines, listing};
 ghost use Rattle.listing.specs.Calls.{Lists};
 ghost use Rattle.listing.specs.Inside.{Puts, Lining, Listable};
@@ -82,7 +82,7 @@ fn put_slot_lines(out: &mut [u8], at: usize, file: &[u8], start: usize, n: usize
     while i < n {
         let slot = words::get_bytes(file, place, 4);
         let block = checking::block_at(file, place);
-        end = put_slot_line(out, end, slot, blocks::count(block), block.len());
+        end = put_slot_line(out, end, slot, block_checking::count(block), block.len());
         place += 12;
         i += 1;
     }

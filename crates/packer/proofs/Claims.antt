@@ -3,9 +3,9 @@ use mathlib.Core.Path.{_≡_, sym, ap, _∙_}
 use mathlib.Core.List.{List}
 use Prim.Native.Nat.{ℕ}
 use lib.ListN.{length}
-use Rattle.blocks.specs.Calls.{packed}
-use Rattle.blocks.specs.declared.Packed.{Packed}
-use Rattle.blocks.proofs.Checks.{afterwards-old, afterwards-new}
+use Rattle.answers.proofs.Checks.{afterwards-old, afterwards-new}
+use Rattle.block_rules.specs.Calls.{packed}
+use Rattle.block_rules.specs.declared.Packed.{Packed}
 use Rattle.packer.specs.Program.{packerNumber, Answers}
 
 -- Of the answer, both tables and the output, refused or not, the promise admits one value each.

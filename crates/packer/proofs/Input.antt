@@ -7,12 +7,13 @@ use lib.ListN.{length, set, take, drop}
 use lib.Seq.{sets, drop-drop, take-append-seam}
 use borrow.Author.Tests.{eqb-true, leb-true}
 use Rattle.words.specs.Bytes.{field}
-use Rattle.blocks.specs.Numbers.{over, tOf}
-use Rattle.blocks.specs.Calls.{packed, packsNumber, Packs}
-use Rattle.blocks.specs.declared.Packed.{Packed}
-use Rattle.blocks.proofs.Checks.{unless-holds, none-fails, afterwards-old, sets-over, told-within}
-use Rattle.blocks.proofs.Tables.{sized-power, t-of-power}
-use Rattle.blocks.proofs.Accept.{packable-packs}
+use Rattle.answers.specs.Answers.{over}
+use Rattle.answers.proofs.Checks.{unless-holds, none-fails, afterwards-old, sets-over, told-within}
+use Rattle.block_rules.specs.Calls.{packed, packsNumber, Packs}
+use Rattle.block_rules.specs.Numbers.{tOf}
+use Rattle.block_rules.specs.declared.Packed.{Packed}
+use Rattle.block_rules.proofs.Tables.{sized-power, t-of-power}
+use Rattle.block_rules.proofs.Accept.{packable-packs}
 use Rattle.packer.specs.Program.{firstWords, wordsOf, packerNumber, packerBlock, Answers}
 use Rattle.packer.specs.Inside.{Lent}
 

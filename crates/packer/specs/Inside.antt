@@ -3,7 +3,7 @@ use mathlib.Core.Path.{_≡_}
 use Prim.Native.Nat.{ℕ, _^_, _%_, _/_, _≤_}
 use mathlib.Core.List.{List}
 use lib.ListN.{length}
-use Rattle.blocks.specs.Block.{worst}
+use Rattle.block_rules.specs.Block.{worst}
 
 -- whole words, and room for them
 pub record WholeWords (input words : List ℕ) : Type 0 where

@@ -5,11 +5,11 @@ use mathlib.Core.List.{List, [], _∷_}
 use lib.Dec.{leb, eqb}
 use lib.ListN.{length, take, drop}
 use Rattle.words.specs.Bytes.{number}
-use Rattle.blocks.specs.Predictors.{Memory, cleared, after}
-use Rattle.blocks.specs.Block.{block}
-use Rattle.blocks.specs.Numbers.{unless, firstFailure, afterwards, over}
-use Rattle.blocks.specs.Calls.{packed}
-use Rattle.blocks.specs.declared.Packed.{Packed}
+use Rattle.answers.specs.Answers.{unless, firstFailure, afterwards, over}
+use Rattle.block_rules.specs.Predictors.{Memory, cleared, after}
+use Rattle.block_rules.specs.Block.{block}
+use Rattle.block_rules.specs.Calls.{packed}
+use Rattle.block_rules.specs.declared.Packed.{Packed}
 
 -- the first n words in bytes: 8 bytes each, low byte first
 abbrev pub firstWords : ℕ → List ℕ → List ℕ

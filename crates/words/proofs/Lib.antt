@@ -1,3 +1,4 @@
+pub mod Each
 pub mod Tests
 pub mod Zeros
 pub mod Xor

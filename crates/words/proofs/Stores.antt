@@ -1,5 +1,5 @@
 -- Runs of stores into a list: `lib.Seq.sets` asks for no room, so neither do these laws.
-use mathlib.Core.Path.{_≡_, refl, ap, _∙_}
+use mathlib.Core.Path.{_≡_, refl, ap, _∙_, sym}
 use mathlib.Core.List.{List, [], _∷_, _++_, append-nil}
 use Prim.Native.Nat.{ℕ, suc, _+_, _-_, _/_, _%_, _≤_, _<_}
 use native.Mathlib.Omega.{arith}
@@ -50,3 +50,7 @@ pub clear-all : (l l₀ : List ℕ) (i : ℕ) → length l₀ ≤ i → i ≤ le
 clear-all l l₀ i h k p =
     let e : i ≡ length l₀ = omega arith in
     p ∙ ap (λ (r : List ℕ). replicate i 0 ++ r) (drop-of-length-le l₀ h) ∙ append-nil (replicate i 0) ∙ ap (λ (n : ℕ). replicate n 0) e
+
+-- one run of stores after another
+pub join : (b c d xs ys : List ℕ) (i j : ℕ) → c ≡ sets b i xs → d ≡ sets c j ys → j ≡ i + length xs → d ≡ sets b i (xs ++ ys)
+join b c d xs ys i j p q e = q ∙ rw (p, e) (sym (sets-append b i xs ys))

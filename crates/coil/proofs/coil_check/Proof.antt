@@ -1,6 +1,6 @@
 use mathlib.Core.Path.{ap}
-use Rattle.blocks.specs.declared.Checked.{Checked}
 use borrow.Author.Needs.{needs}
+use Rattle.block_rules.specs.declared.Checked.{Checked}
 use Rattle.coil.proofs.coil_check.Statement.{statement}
 use Rattle.coil.proofs.coil_check.Tie as tie
 

@@ -1,6 +1,6 @@
 use mathlib.Core.Path.{ap, _∙_}
-use Rattle.exams.specs.Calls.{openedNumber}
 use borrow.Author.Needs.{needs}
+use Rattle.exam_rules.specs.Calls.{openedNumber}
 use Rattle.coil.proofs.coil_open.Statement.{statement}
 use Rattle.coil.proofs.coil_open.Tie as tie
 

@@ -1,7 +1,7 @@
 use mathlib.Core.Path.{sym}
 use lib.Seq.{length-take-le}
-use Rattle.listing.proofs.Claims.{listed-within}
 use borrow.Author.Needs.{needs}
+use Rattle.listing.proofs.Claims.{listed-within}
 use Rattle.lister.proofs.answer_input.Statement.{statement}
 use Rattle.lister.proofs.answer_input.Tie as tie
 

@@ -1,7 +1,7 @@
 use mathlib.Core.Path.{sym}
 use lib.Seq.{length-take-le}
-use Rattle.packer.proofs.Input.{answer-fits}
 use borrow.Author.Needs.{needs}
+use Rattle.packer.proofs.Input.{answer-fits}
 use Rattle.packer.proofs.answer_input.Statement.{statement}
 use Rattle.packer.proofs.answer_input.Tie as tie
 

@@ -3,8 +3,8 @@ use mathlib.Core.List.{List}
 use Prim.Native.Nat.{ℕ, _≤_, _-_}
 use lib.ListN.{length}
 use lib.Seq.{length-take-le}
-use Rattle.io.specs.Counts.{Counts}
 use borrow.Author.Needs.{needs}
+use Rattle.io.specs.Counts.{Counts}
 use Rattle.streams.proofs.read_input.Statement.{statement}
 use Rattle.streams.proofs.read_input.Tie as tie
 

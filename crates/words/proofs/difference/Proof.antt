@@ -1,5 +1,5 @@
-use borrow.Author.Needs.{needs}
 use native.Mathlib.Omega.{arith}
+use borrow.Author.Needs.{needs}
 use Rattle.words.specs.Words.{sub64}
 use Rattle.words.proofs.difference.Statement.{statement}
 use Rattle.words.proofs.difference.Tie as tie

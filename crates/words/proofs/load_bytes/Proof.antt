@@ -1,6 +1,6 @@
 use native.Mathlib.Omega.{arith}
-use Rattle.words.proofs.Bytes.{field-shifted}
 use borrow.Author.Needs.{needs}
+use Rattle.words.proofs.Bytes.{field-shifted}
 use Rattle.words.proofs.load_bytes.Statement.{statement}
 use Rattle.words.proofs.load_bytes.Tie as tie
 

@@ -1,5 +1,5 @@
-use Rattle.words.proofs.Bytes.{field-of}
 use borrow.Author.Needs.{needs}
+use Rattle.words.proofs.Bytes.{field-of}
 use Rattle.words.proofs.load_eight.Statement.{statement}
 use Rattle.words.proofs.load_eight.Tie as tie
 

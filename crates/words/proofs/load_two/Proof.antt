@@ -1,6 +1,6 @@
 use native.Mathlib.Omega.{arith}
-use Rattle.words.proofs.Bytes.{field-one, field-of}
 use borrow.Author.Needs.{needs}
+use Rattle.words.proofs.Bytes.{field-one, field-of}
 use Rattle.words.proofs.load_two.Statement.{statement}
 use Rattle.words.proofs.load_two.Tie as tie
 

@@ -1,5 +1,5 @@
-use borrow.Author.Needs.{needs}
 use native.Mathlib.Omega.{arith}
+use borrow.Author.Needs.{needs}
 use Rattle.words.proofs.Moves.{Moving, move-starts, move-on, move-ends}
 use Rattle.words.proofs.move_up.Statement.{statement}
 use Rattle.words.proofs.move_up.Tie as tie

@@ -1,6 +1,6 @@
 use native.Mathlib.Omega.{arith}
-use Rattle.words.proofs.Zeros.{zeros-by-rungs}
 use borrow.Author.Needs.{needs}
+use Rattle.words.proofs.Zeros.{zeros-by-rungs}
 use Rattle.words.proofs.zero_bytes.Statement.{statement}
 use Rattle.words.proofs.zero_bytes.Tie as tie
 

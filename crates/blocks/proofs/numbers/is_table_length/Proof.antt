@@ -1,6 +1,6 @@
 use mathlib.Core.Path.{refl}
-use Rattle.blocks.proofs.Tables.{table-too-long, table-is-power}
 use borrow.Author.Needs.{needs}
+use Rattle.block_rules.proofs.Tables.{table-too-long, table-is-power}
 use Rattle.blocks.proofs.numbers.is_table_length.Statement.{statement}
 use Rattle.blocks.proofs.numbers.is_table_length.Tie as tie
 

@@ -2,8 +2,8 @@ use mathlib.Core.Path.{sym, _∙_}
 use native.Mathlib.Omega.{arith}
 use borrow.Author.Needs.{needs}
 use borrow.Author.Tests.{le-leb, lt-leb}
-use Rattle.blocks.specs.Numbers.{packNumber}
-use Rattle.blocks.proofs.Checks.{unless-passes, unless-fails, all-pass, fails-here, fails-later}
+use Rattle.answers.proofs.Checks.{unless-passes, unless-fails, all-pass, fails-here, fails-later}
+use Rattle.block_rules.specs.Numbers.{packNumber}
 use Rattle.blocks.proofs.numbers.pack_number.Statement.{statement}
 use Rattle.blocks.proofs.numbers.pack_number.Tie as tie
 

@@ -1,6 +1,6 @@
 use native.Mathlib.Omega.{arith}
-use Rattle.blocks.proofs.Accept.{packable, pack-refused, pack-done}
 use borrow.Author.Needs.{needs}
+use Rattle.block_rules.proofs.Accept.{packable, pack-refused, pack-done}
 use Rattle.blocks.proofs.packing.pack.Statement.{statement}
 use Rattle.blocks.proofs.packing.pack.Tie as tie
 

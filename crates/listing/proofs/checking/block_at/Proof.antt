@@ -1,6 +1,6 @@
 use native.Mathlib.Omega.{arith}
-use Rattle.listing.proofs.Walks.{part-is, part-ends}
 use borrow.Author.Needs.{needs}
+use Rattle.listing.proofs.Walks.{part-is, part-ends}
 use Rattle.listing.proofs.checking.block_at.Statement.{statement}
 use Rattle.listing.proofs.checking.block_at.Tie as tie
 

@@ -1,6 +1,6 @@
 use native.Mathlib.Omega.{arith}
-use Rattle.listing.proofs.Answers.{number-long, number-short, number-refused, opened-stands, opened-few, number-blocks, number-cramped, number-fine}
 use borrow.Author.Needs.{needs}
+use Rattle.listing.proofs.Answers.{number-long, number-short, number-refused, opened-stands, opened-few, number-blocks, number-cramped, number-fine}
 use Rattle.listing.proofs.checking.list_number.Statement.{statement}
 use Rattle.listing.proofs.checking.list_number.Tie as tie
 

@@ -2,10 +2,10 @@
 use Prim.Native.Nat.{ℕ, _<_}
 use native.Mathlib.Omega.{arith}
 use borrow.Author.Needs.{needs}
-use Rattle.listing.proofs.Decimals.{length-one, length-more}
-use Rattle.listing.proofs.Lines.{puts-long, one-digit, more-digits}
 use borrow.Fn.Kinds.{In}
 use borrow.Fn.PlainCycle.{Measures, is, falls, and}
+use Rattle.listing.proofs.Decimals.{length-one, length-more}
+use Rattle.listing.proofs.Lines.{puts-long, one-digit, more-digits}
 use Rattle.listing.proofs.text.put_decimal.Reads as put-decimal
 use Rattle.listing.proofs.text.put_decimal.Kinds as put-decimal-kinds
 use Rattle.listing.proofs.text.+put_decimal.Lts-put_decimal as put-decimal-lts

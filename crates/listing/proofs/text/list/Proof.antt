@@ -1,6 +1,6 @@
 use mathlib.Core.Path.{sym, _∙_}
-use Rattle.listing.proofs.Answers.{listable, list-refused, list-done}
 use borrow.Author.Needs.{needs}
+use Rattle.listing.proofs.Answers.{listable, list-refused, list-done}
 use Rattle.listing.proofs.text.list.Statement.{statement}
 use Rattle.listing.proofs.text.list.Tie as tie
 

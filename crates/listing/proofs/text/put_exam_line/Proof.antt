@@ -2,10 +2,10 @@ use mathlib.Core.Path.{ap}
 use Prim.Native.Nat.{ℕ}
 use native.Mathlib.Omega.{arith}
 use lib.ListN.{length}
-use Rattle.exams.proofs.Opens.{shifted-one}
+use borrow.Author.Needs.{needs}
+use Rattle.block_rules.proofs.Tables.{shifted-one}
 use Rattle.listing.specs.Text.{decimal}
 use Rattle.listing.proofs.Lines.{puts-long, length-exam-line, exam-line-put}
-use borrow.Author.Needs.{needs}
 use Rattle.listing.proofs.text.put_exam_line.Statement.{statement}
 use Rattle.listing.proofs.text.put_exam_line.Tie as tie
 

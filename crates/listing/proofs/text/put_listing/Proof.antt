@@ -1,6 +1,6 @@
 use native.Mathlib.Omega.{arith}
-use Rattle.listing.proofs.Answers.{rules-kept, exam-line-room, heading-room, lines-ready, listing-put}
 use borrow.Author.Needs.{needs}
+use Rattle.listing.proofs.Answers.{rules-kept, exam-line-room, heading-room, lines-ready, listing-put}
 use Rattle.listing.proofs.text.put_listing.Statement.{statement}
 use Rattle.listing.proofs.text.put_listing.Tie as tie
 

@@ -1,6 +1,6 @@
 use native.Mathlib.Omega.{arith}
-use Rattle.listing.proofs.Lines.{puts-long, length-slot-line, slot-line-put}
 use borrow.Author.Needs.{needs}
+use Rattle.listing.proofs.Lines.{puts-long, length-slot-line, slot-line-put}
 use Rattle.listing.proofs.text.put_slot_line.Statement.{statement}
 use Rattle.listing.proofs.text.put_slot_line.Tie as tie
 

@@ -1,6 +1,6 @@
 use native.Mathlib.Omega.{arith}
 use borrow.Author.Tests.{le-leb, lt-leb, eq-eqb, ne-eqb}
-use Rattle.blocks.proofs.Checks.{all-pass, passes, stops}
+use Rattle.answers.proofs.Checks.{all-pass, passes, stops}
 use Rattle.packer.specs.Program.{packerNumber}
 use Rattle.packer.proofs.packing.input_number.Statement.{statement}
 use Rattle.packer.proofs.packing.input_number.Tie as tie

@@ -1,8 +1,8 @@
 use mathlib.Core.Path.{sym, _∙_}
 use native.Mathlib.Omega.{arith}
 use lib.Seq.{length-take-le}
-use Rattle.packer.proofs.Input.{takes, answers-refused, answers-done}
 use borrow.Author.Needs.{needs}
+use Rattle.packer.proofs.Input.{takes, answers-refused, answers-done}
 use Rattle.packer.proofs.packing.pack_input.Statement.{statement}
 use Rattle.packer.proofs.packing.pack_input.Tie as tie
 

@@ -1,0 +1,99 @@
+-- What is promised of the rules of a block, each promise with one line of plain words.
+use mathlib.Core.Path.{_≡_, refl, sym, _∙_}
+use mathlib.Core.List.{List, [], _∷_, _++_, map}
+use Prim.Native.Nat.{ℕ, _*_, _^_, _≤_, _<_}
+use native.Mathlib.Omega.{arith}
+use lib.Count.{leadingZeros}
+use lib.ListN.{length, take, drop, length-drop, take-append-drop}
+use Rattle.words.specs.Words.{Words, add64, sub64, shiftedLeft, shiftedRight, lowBits, xor, zeroBytes}
+use Rattle.answers.specs.Answers.{unless, firstFailure, afterwards}
+use Rattle.block_rules.specs.Predictors.{cleared, fcmPrediction, dfcmPrediction, difference, nextFcmHash, nextDfcmHash, learn}
+use Rattle.block_rules.specs.Codes.{fcmResidual, dfcmResidual, dfcmChosen, lowThree, written, codedBy, chosen, codedWord, residualBytes}
+use Rattle.block_rules.specs.Block.{arranged, block, body, worst, count, residualsAt, countedCodes, lastHalf, wordsIn}
+use Rattle.block_rules.specs.Room.{Run, joined, Cut, ofEqualWords, runCost, bound, closerBound, Settles}
+use Rattle.block_rules.specs.Calls.{checked}
+use Rattle.block_rules.specs.Worked.{cases, made, worked}
+use Rattle.block_rules.specs.Numbers.{tOf, fillerStands, blockNumber}
+use Rattle.block_rules.proofs.Tables.{t-of-power}
+use Rattle.block_rules.proofs.Lengths.{block-at-most}
+use Rattle.block_rules.proofs.Accept.{checks-number, counted, too-short-for-codes, whole-alone}
+use Rattle.block_rules.proofs.Get.{length-words}
+use Rattle.block_rules.proofs.Settle.{update, settles}
+use Rattle.block_rules.proofs.Runs.{block-closer, closer-at-most}
+
+-- ---- the blocks worked by hand
+
+-- Every case marked P comes out as it was worked by hand.
+pub worked-by-hand : map made cases ≡ map worked cases
+unfolding block arranged body residualBytes codedWord chosen codedBy written lowThree dfcmChosen fcmResidual dfcmResidual learn nextFcmHash nextDfcmHash difference fcmPrediction dfcmPrediction cleared checked blockNumber fillerStands lastHalf countedCodes unless firstFailure afterwards add64 sub64 shiftedLeft shiftedRight lowBits xor zeroBytes leadingZeros
+worked-by-hand = refl
+
+-- ---- nothing cut short, nothing added
+
+-- A block that is too short for the codes it counts answers 5.
+pub codes-need-room : (b : List ℕ) → 8 ≤ length b → count b ≤ 65536 → length b < residualsAt (count b) → checked b .number ≡ 5
+codes-need-room b h few l = checks-number b ∙ sym (too-short-for-codes b h few l)
+
+-- An accepted block reads as many words as it counts, with tables of any size.
+pub words-counted : (t : ℕ) (b : List ℕ) → checked b .number ≡ 0 → length (wordsIn t b) ≡ count b
+words-counted t b e = length-words t b (count b) (counted b (count b) (sym (checks-number b) ∙ e) refl)
+
+-- The t that is read off a table's length is its t.
+pub t-read-off : (t : ℕ) → t ≤ 16 → tOf (2 ^ t) ≡ t
+t-read-off t h = t-of-power t h
+
+-- No proper first part of an accepted block is accepted.
+pub no-first-part : (b : List ℕ) (k : ℕ) → checked b .number ≡ 0 → k < length b → checked (take k b) .number ≡ 0 → ⊥
+no-first-part b k e h f =
+    let z = whole-alone (take k b) (drop k b) (sym (checks-number (take k b)) ∙ f) (rw (take-append-drop k b) (sym (checks-number b) ∙ e)) in
+    omega (arith, length-drop k b)
+
+-- No accepted block with bytes added is accepted.
+pub nothing-added : (b c : List ℕ) → checked b .number ≡ 0 → checked (b ++ c) .number ≡ 0 → 0 < length c → ⊥
+nothing-added b c e f h = omega (arith, whole-alone b c (sym (checks-number b) ∙ e) (sym (checks-number (b ++ c)) ∙ f))
+
+-- ---- how much room a block needs
+
+-- Over every t, and however the words are cut into runs: a block's length is at most 8, plus n/2 rounded up, plus what each run may cost.
+pub block-within-bound : (t : ℕ) (ws : List ℕ) → Words ws → (cut : Cut ws) → length (block t ws) ≤ bound t ws cut
+block-within-bound t ws h cut = omega (arith, block-closer t ws cut h, closer-at-most t ws cut)
+
+-- It never exceeds 8, plus n/2 rounded up, plus 8n.
+pub block-within-worst : (t : ℕ) (ws : List ℕ) → length (block t ws) ≤ worst (length ws)
+block-within-worst t ws = block-at-most t ws
+
+-- The worst of all, for 65,536 words, is 557,064 bytes.
+pub worst-of-all : worst 65536 ≡ 557064
+worst-of-all = refl
+
+-- The two join run by run: a run of few words is charged 8 bytes a word where that is less.
+pub block-within-closer-bound : (t : ℕ) (ws : List ℕ) → Words ws → (cut : Cut ws) → length (block t ws) ≤ closerBound t ws cut
+block-within-closer-bound t ws h cut = block-closer t ws cut h
+
+-- three equal words
+abbrev pub three : List ℕ
+three = 0x3FF0_0000_0000_0000 ∷ 0x3FF0_0000_0000_0000 ∷ 0x3FF0_0000_0000_0000 ∷ []
+
+-- as one run
+abbrev pub oneRun : List Run
+oneRun = record { first = 0x3FF0_0000_0000_0000; difference = 0; count = 3 } ∷ []
+
+-- The three equal words are one run.
+pub one-run-is-three : joined oneRun ≡ three
+unfolding add64
+one-run-is-three = refl
+
+-- The bound is met exactly: three equal words at t = 6, as one run, take all the room that it gives.
+pub bound-is-met : length (block 6 three) ≡ bound 6 three (record { runs = oneRun; whole = one-run-is-three })
+unfolding block arranged body residualBytes codedWord chosen codedBy written lowThree dfcmChosen fcmResidual dfcmResidual learn nextFcmHash nextDfcmHash difference fcmPrediction dfcmPrediction cleared add64 sub64 shiftedLeft shiftedRight lowBits xor zeroBytes leadingZeros runCost ofEqualWords
+bound-is-met = refl
+
+-- As many words as shift the old bits out, all equal, settle the fcm hash: it no longer depends on what it was, and stays.
+pub fcm-hash-settles : (t v k : ℕ) → t ≤ 6 * k → Settles (λ h. nextFcmHash t h v) t k
+unfolding nextFcmHash update
+fcm-hash-settles t v k h = settles 6 t (shiftedRight 48 v) k h
+
+-- So do as many differences, all equal, for the dfcm hash.
+pub dfcm-hash-settles : (t d k : ℕ) → t ≤ 2 * k → Settles (λ h. nextDfcmHash t h d) t k
+unfolding nextDfcmHash update
+dfcm-hash-settles t d k h = settles 2 t (shiftedRight 40 d) k h

@@ -1,0 +1,75 @@
+-- What a word costs: no code and residual that read as the word cost less than those taken, by any choice that is thrifty.
+use mathlib.Core.Path.{_≡_, refl, _∙_, subst}
+use mathlib.Core.Bool.{true, false}
+use Prim.Native.Nat.{ℕ, _+_, _-_, _/_, _%_, max, _^_, _≤_, _<_}
+use native.Mathlib.Omega.{arith}
+use native.Mathlib.Nat.{one-le-pow, lt-of-lt-of-le}
+use lib.Dec.{ltb}
+use borrow.Author.Tests.{ltb-true, ltb-false}
+use Rattle.words.specs.Words.{xor, zeroBytes}
+use Rattle.words.proofs.Tests.{either}
+use Rattle.words.proofs.Zeros.{zeros-at-most, zeros-of-fit, pow-256-le}
+use Rattle.words.proofs.Xor.{xor-of, xor-none}
+use Rattle.block_rules.specs.Predictors.{Memory, fcmPrediction, dfcmPrediction}
+use Rattle.block_rules.specs.Codes.{Choice, fcmResidual, dfcmResidual, lowThree, written, chosen, codedWord, namedPrediction, decodedWord}
+use Rattle.block_rules.specs.declared.Coded.{Coded}
+use Rattle.block_rules.proofs.Codes.{low-three-is, low-three-of-zero, written-is, written-small, coded-cost, Thrifty}
+
+-- of the codes that write enough for z zero bytes, the code made for z writes least
+least-enough : (z c : ℕ) → z ≤ 8 → 8 - z ≤ written c → written (lowThree z) ≤ written c
+least-enough z c h l =
+    either (ltb z 8)
+    (λ e.
+    let some : z ≤ 7 = omega (arith, ltb-true z 8 e) in
+    let b = low-three-is z some in
+    let s : lowThree z % 8 ≡ lowThree z = whole _ z some b in
+    fewer-bytes (c % 8) (lowThree z) _ _ (no-higher (c % 8) (lowThree z) z some b (omega (arith, written-is c))) (rw s at (written-is (lowThree z))) (written-is c))
+    (λ e. omega (arith, low-three-of-zero z (omega (arith, ltb-false z 8 e)), written-is (lowThree z)))
+  where
+    whole : (k z : ℕ) → z ≤ 7 → k + z / 4 ≡ z → k % 8 ≡ k
+    whole k z h e = omega arith
+
+    no-higher : (l k z : ℕ) → z ≤ 7 → k + z / 4 ≡ z → l + l / 4 ≤ z → l ≤ k
+    no-higher l k z h e n = omega arith
+
+    fewer-bytes : (l k v w : ℕ) → l ≤ k → v + k + k / 4 ≡ 8 → w + l + l / 4 ≡ 8 → v ≤ w
+    fewer-bytes l k v w m p q = omega arith
+
+-- what fits the bytes that a code writes leaves the other bytes zero
+zeros-of-written : (r c : ℕ) → r < 256 ^ written c → 8 - zeroBytes r ≤ written c
+zeros-of-written r c h =
+    let w : r < 2 ^ 64 = lt-of-lt-of-le h (pow-256-le {b = 8} (written-small c)) in
+    omega (arith, zeros-of-fit r (written c) w h)
+
+module _ (choice : Choice) (thrifty : Thrifty choice) where
+  -- so the one taken costs no more than any code that writes enough for either residual
+  taken-least : (f d c : ℕ) → 8 - max (zeroBytes f) (zeroBytes d) ≤ written c → written (chosen choice f d .code) ≤ written c
+  unfolding chosen
+  taken-least f d c h =
+      either (choice f d)
+      (λ e. rw (e, coded-cost true d) (least-enough (zeroBytes d) c (zeros-at-most d) (omega (arith, thrifty .dfcm f d e))))
+      (λ e. rw (e, coded-cost false f) (least-enough (zeroBytes f) c (zeros-at-most f) (omega (arith, thrifty .fcm f d e))))
+
+  -- For any code and any residual of its width that read as the word, the code taken costs no more.
+  pub costs-no-more : (m : Memory) (v : ℕ) (c : Coded) → c .residual < 256 ^ written (c .code) → decodedWord m c ≡ v
+      → written (codedWord choice m v .code) ≤ written (c .code)
+  unfolding codedWord decodedWord namedPrediction fcmResidual dfcmResidual
+  costs-no-more m v c h =
+      let fits : (p : ℕ) → xor (c .residual) p ≡ v → 8 - zeroBytes (xor v p) ≤ written (c .code) =
+      λ p e. zeros-of-written (xor v p) (c .code) (subst (λ (k : ℕ). k < 256 ^ written (c .code)) (xor-of (c .residual) p v e) h) in
+      either (ltb (c .code) 8)
+      (λ l. rw l (λ e. taken-least _ _ (c .code) (omega (arith, fits (fcmPrediction m) e))))
+      (λ l. rw l (λ e. taken-least _ _ (c .code) (omega (arith, fits (dfcmPrediction m) e))))
+
+  -- a word that the prediction of a code without residual bytes gives costs nothing
+  given-free : (m : Memory) (v c : ℕ) → written c ≡ 0 → namedPrediction m c ≡ v → written (codedWord choice m v .code) ≡ 0
+  unfolding decodedWord
+  given-free m v c z e = omega (arith, costs-no-more m v (record { code = c; residual = 0 }) (one-le-pow (written c) 256 (omega arith)) (xor-none (namedPrediction m c) ∙ e))
+
+  pub fcm-free : (m : Memory) (v : ℕ) → fcmPrediction m ≡ v → written (codedWord choice m v .code) ≡ 0
+  unfolding written namedPrediction
+  fcm-free m v e = given-free m v 7 refl e
+
+  pub dfcm-free : (m : Memory) (v : ℕ) → dfcmPrediction m ≡ v → written (codedWord choice m v .code) ≡ 0
+  unfolding written namedPrediction
+  dfcm-free m v e = given-free m v 15 refl e

@@ -1,0 +1,11 @@
+pub mod Tables
+pub mod Codes
+pub mod Learn
+pub mod Lengths
+pub mod Accept
+pub mod Get
+pub mod Round
+pub mod Cost
+pub mod Settle
+pub mod Runs
+pub mod Claims

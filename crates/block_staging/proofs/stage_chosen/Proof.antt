@@ -1,0 +1,41 @@
+use native.Mathlib.Omega.{arith}
+use borrow.Author.Needs.{needs}
+use Rattle.block_rules.proofs.Codes.{written-small}
+use Rattle.block_staging.proofs.Stage.{fcm-zero, dfcm-zero, chosen-staged}
+use Rattle.block_staging.proofs.stage_chosen.Statement.{statement}
+use Rattle.block_staging.proofs.stage_chosen.Tie as tie
+
+returns : tie.Need-returns
+returns c =
+    fcm-zero _ _ _ _ (c .if1 .taken)
+
+returns-2 : tie.Need-returns-2
+returns-2 c =
+    dfcm-zero _ _ _ _ (omega arith) (c .before .if1 .left) (c .if2 .taken)
+
+chosen-requires : tie.Need-chosen-requires
+chosen-requires c κs = search needs
+
+store-eight-requires : tie.Need-store-eight-requires
+store-eight-requires c κs = search needs
+
+add-t10 : tie.Need-add-t10
+add-t10 c =
+    let at-chosen = c .before .before .before .before .before in
+    let entry = at-chosen .before .before .before .before in
+    omega (arith, at-chosen .chosen .ensures .1, written-small (at-chosen .chosen .result .coded .code), entry .pre .room, entry .pre .small)
+
+same-length : tie.Need-same-length
+same-length c = search needs
+
+returns-3 : tie.Need-returns-3
+returns-3 c =
+    let at-store-eight = c .before .before .before in
+    let at-chosen = at-store-eight .before .before in
+    let entry = at-chosen .before .before .before .before in
+    chosen-staged _ _ _ _ _ (entry .pre .room) (at-chosen .chosen .ensures .0) (at-store-eight .store-eight .ensures) _ (at-chosen .chosen .ensures .1)
+
+pub stage-chosen-spec : {M : Type 1} → statement M
+stage-chosen-spec =
+    tie.close
+    (tie.spec returns returns-2 chosen-requires store-eight-requires add-t10 same-length returns-3)

@@ -1,8 +1,0 @@
-pub mod Predictors
-pub mod Codes
-pub mod Block
-pub mod Room
-pub mod Numbers
-pub mod Calls
-pub mod Worked
-pub mod Inside

@@ -1,0 +1,146 @@
+-- A proper first part of a file of pieces whose blocks are whole never opens with all its own blocks whole. Where whole blocks are walked from the start,
+-- each is a block of the file; then the part's own directory would start at a block of the file, whose length field would have to be the first offset, 0,
+-- or whose count would have to be the mark.
+use mathlib.Core.Path.{_≡_, refl, sym, ap, _∙_}
+use mathlib.Core.List.{List, [], _∷_, _++_, append-assoc}
+use Prim.Native.Nat.{ℕ, zero, suc, _+_, _-_, _*_, _≤_, _<_}
+use native.Mathlib.Omega.{arith}
+use lib.ListN.{length, getD, take, drop, length-append, length-drop, take-append-drop}
+use lib.Seq.{drop-drop, drop-append-seam, length-take-le, take-append-le}
+use Rattle.words.specs.Bytes.{number, field}
+use Rattle.words.proofs.Each.{more}
+use Rattle.words.proofs.Moves.{same-equal}
+use Rattle.answers.proofs.Checks.{unless-holds}
+use Rattle.block_rules.specs.Block.{count, statedLength}
+use Rattle.block_rules.specs.Numbers.{blockNumber}
+use Rattle.block_rules.proofs.Accept.{whole, stated-first}
+use Rattle.exam_rules.specs.File.{Entry, entry, entryBytes, directoryBytes, mark, trailerBytes, fileLength, fileBytes, blockOf}
+use Rattle.exam_rules.specs.Reading.{markIn, directoryAt, entriesIn, entryAt, entriesAt, fileIn}
+use Rattle.exam_rules.specs.Numbers.{joins, entriesNumber, openInNumber}
+use Rattle.exam_rules.specs.Pieces.{Piece, blocksOf, entriesOf, fileOfPieces}
+use Rattle.exam_rules.proofs.Directory.{heads, joins-equal, joins-forward, ends-before, length-entries}
+use Rattle.exam_rules.proofs.Opens.{OpensIn, opens-in, trails-ends, directory-is}
+use Rattle.exam_rules.proofs.Parts.{part-of-first}
+use Rattle.exam_rules.proofs.Holds.{Holds, holds-length}
+use Rattle.exam_rules.proofs.Pieces.{Wholes, length-pieces}
+
+-- ---- the two fields at the head of what stands at a place
+
+block-states : (b x : List ℕ) → blockNumber b ≡ 0 → statedLength (b ++ x) ≡ length b
+block-states b x z = let w = whole b z in stated-first b x (w .long) ∙ w .stated
+
+block-counts : (b x : List ℕ) → blockNumber b ≡ 0 → count (b ++ x) ≤ 65536
+block-counts b x z = let w = whole b z in rw (ap number (take-append-le 4 b x (omega (arith, w .long)))) (w .few)
+
+-- a file of pieces longer than a trailer has a piece; its directory starts with the entry of the first block, whose offset is 0
+tail-states : (exam t : ℕ) (ps : List Piece) (x : List ℕ) → 32 < fileLength (fileOfPieces exam t ps) → statedLength (directoryBytes (entriesOf 0 ps) ++ x) ≡ 0
+unfolding entryBytes
+tail-states exam t [] x h = absurd (omega arith)
+tail-states exam t (p ∷ ps) x h = refl
+
+-- ---- the walk over the blocks of a first part
+
+module _ (b tail : List ℕ) (k to : ℕ) (long : k ≤ length b) (inside : to ≤ k) (none-there : statedLength tail ≡ 0) where
+  -- what is left of the pieces where the walk over entries ends
+  record Rest (ps : List Piece) (es : List Entry) : Type 0 where
+    pub pieces : List Piece
+    pub wholes : Wholes pieces
+    pub there : drop to b ≡ blocksOf pieces ++ tail
+    pub many : length es + length pieces ≡ length ps
+
+  -- a whole block of the part states its size in the file's own bytes
+  states-size : (offset size : ℕ) → offset + size ≤ to → 8 ≤ size → blockNumber (take size (drop offset (take to (take k b)))) ≡ 0 → statedLength (drop offset b) ≡ size
+  states-size offset size end h w =
+      let x = take size (drop offset (take to (take k b))) in
+      let x-is : x ≡ take size (drop offset b) = part-of-first size offset to (take k b) end ∙ part-of-first size offset k b (omega arith) in
+      let lx : length (take size (drop offset b)) ≡ size = length-take-le size (drop offset b) (simp length-drop (omega arith)) in
+      sym (ap number (part-of-first 4 4 size (drop offset b) (omega arith))) ∙ (rw x-is at (whole x w .stated)) ∙ lx
+
+  walk : (es : List Entry) (ps : List Piece) (lowest from : ℕ) → Wholes ps → entriesNumber joins lowest from es to ≡ 0
+      → ((i : ℕ) → i < length es → blockNumber (take (getD es i (entry 0 0 0) .size) (drop (getD es i (entry 0 0 0) .offset) (take to (take k b)))) ≡ 0)
+      → drop from b ≡ blocksOf ps ++ tail → Rest ps es
+  walk [] ps lowest from ws z w e =
+      let q : from ≡ to = joins-equal from to (unless-holds _ _ z (omega arith)) in
+      record { pieces = ps; wholes = ws; there = rw (← q) e; many = omega arith }
+  walk (x ∷ es) [] lowest from ws z w e =
+      let h = heads joins lowest from x es to z in
+      let q : from ≡ x .offset = joins-equal from (x .offset) (h .joined) in
+      let s = states-size (x .offset) (x .size) (ends-before joins-forward _ _ es to (h .rest)) (h .size) (w 0 (omega arith)) in
+      absurd (omega (arith, h .size, s, none-there, ap statedLength (rw q at e)))
+  walk (x ∷ es) (p ∷ ps) lowest from (more v ws) z w e =
+      let h = heads joins lowest from x es to z in
+      let after = blocksOf ps ++ tail in
+      let q : from ≡ x .offset = joins-equal from (x .offset) (h .joined) in
+      let s = states-size (x .offset) (x .size) (ends-before joins-forward _ _ es to (h .rest)) (h .size) (w 0 (omega arith)) in
+      let e1 : drop (x .offset) b ≡ p .block ++ after = (rw q at e) ∙ append-assoc (p .block) (blocksOf ps) tail in
+      let n : x .size ≡ length (p .block) = sym s ∙ ap statedLength e1 ∙ block-states (p .block) after v in
+      let e2 : drop (x .offset + x .size) b ≡ after = sym (drop-drop (x .size) (x .offset) b) ∙ rw (e1, n) (drop-append-seam (p .block) after) in
+      let r = walk es ps (x .slot + 1) (x .offset + x .size) ws (h .rest) (λ i l. w (suc i) (omega arith)) e2 in
+      record { pieces = r .pieces; wholes = r .wholes; there = r .there; many = omega (arith, r .many) }
+
+-- ---- a proper first part of a file of pieces, in a buffer that holds the file
+
+module _ (exam t : ℕ) (ps : List Piece) {b : List ℕ} {l : ℕ} (h : Holds b l (fileOfPieces exam t ps)) (ws : Wholes ps) (k asked : ℕ) (short : k < l)
+    (z : openInNumber b k asked ≡ 0) where
+  abbrev part : List ℕ
+  part = take k b
+
+  -- what stands behind the blocks
+  abbrev tail : List ℕ
+  tail = directoryBytes (entriesOf 0 ps) ++ (trailerBytes 1 t exam (length (entriesOf 0 ps)) (fileLength (fileOfPieces exam t ps)) ++ drop l b)
+
+  starts : b ≡ blocksOf ps ++ tail
+  unfolding fileBytes
+  starts = sym (take-append-drop l b) ∙ rw (h .bytes) (simp append-assoc)
+
+  length-tail : length tail + l ≡ 12 * length ps + 32 + length b
+  length-tail = omega (arith, ap length starts, length-append (blocksOf ps) tail, holds-length h, length-pieces 0 ps)
+
+  o : OpensIn b k asked
+  o = opens-in b k asked z
+
+  -- a field of the part is a field of the file
+  part-field : (n at : ℕ) → at + n ≤ k → field n at part ≡ field n at b
+  part-field n at h = ap number (part-of-first n at k b h)
+
+  abbrev s : ℕ
+  s = directoryAt part
+
+  ends : s + 12 * entriesIn part + 32 ≡ k
+  ends = trails-ends part (o .is .trailer) ∙ o .long
+
+  keeps : entriesNumber joins 0 0 (entriesAt part s (entriesIn part)) s ≡ 0
+  keeps = sym (directory-is part) ∙ o .is .directory
+
+  -- no block of the file can stand where the part's directory starts: with entries, its length field would be 0
+  no-first-entry : (n : ℕ) → entriesNumber joins 0 0 (entriesAt part s (suc n)) s ≡ 0 → s + 12 ≤ k → field 4 (s + 4) b ≡ 0
+  unfolding entryAt
+  no-first-entry n z h =
+      sym (part-field 4 (s + 4) (omega arith)) ∙ sym (joins-equal _ _ (heads joins 0 0 (entryAt part s) (entriesAt part (s + 12) n) s z .joined))
+
+  -- with none, its count would be the mark
+  no-mark : entriesIn part ≡ 0 → s ≡ 0 → count b ≡ number mark
+  no-mark n z =
+      let a : length part - 32 ≡ 0 = omega (arith, ends, o .long) in
+      sym (part-field 4 0 (omega (arith, ends))) ∙ ap number (rw a at (same-equal (markIn part) mark (o .is .trailer .marked)))
+
+  finish : (n : ℕ) → n ≡ entriesIn part → (left : List Piece) → Wholes left → drop s b ≡ blocksOf left ++ tail → n + length left ≡ length ps → ⊥
+  finish n q [] ws e m = omega (arith, ap length e, length-drop s b, length-tail, ends, o .within)
+  finish zero q (p ∷ left) (more v ws) e m =
+      let y : 0 ≡ s = joins-equal 0 s (unless-holds _ _ (rw (← q) at keeps) (omega arith)) in
+      let c : count b ≤ 65536 = rw (ap count (rw (← y) at e) ∙ ap count (append-assoc (p .block) (blocksOf left) tail)) (block-counts (p .block) (blocksOf left ++ tail) v) in
+      omega (arith, no-mark (sym q) (sym y))
+  finish (suc n) q (p ∷ left) (more v ws) e m =
+      let a = no-first-entry n (rw (← q) at keeps) (omega (arith, ends)) in
+      let c : field 4 (s + 4) b ≡ length (p .block) =
+      ap (λ (x : List ℕ). number (take 4 x)) (sym (drop-drop 4 s b))
+      ∙ ap statedLength (e ∙ append-assoc (p .block) (blocksOf left) tail)
+      ∙ block-states (p .block) (blocksOf left ++ tail) v in
+      omega (arith, whole (p .block) v .long)
+
+  pub never : ((i : ℕ) → i < length (fileIn part .entries) → blockNumber (blockOf (fileIn part) (getD (fileIn part .entries) i (entry 0 0 0))) ≡ 0) → ⊥
+  unfolding fileIn blockOf
+  never w =
+      let x : 32 < fileLength (fileOfPieces exam t ps) = omega (arith, o .is .trailer .long, o .long, holds-length h) in
+      let r = walk b tail k s (o .within) (omega (arith, ends)) (tail-states exam t ps _ x) (entriesAt part s (entriesIn part)) ps 0 0 ws keeps w starts in
+      finish (entriesIn part) refl (r .pieces) (r .wholes) (r .there) (omega (arith, r .many, length-entries part (entriesIn part) s))

@@ -1,0 +1,15 @@
+pub mod Directory
+pub mod Opens
+pub mod Parts
+pub mod Lengths
+pub mod Changes
+pub mod Entries
+pub mod Stands
+pub mod Accept
+pub mod Back
+pub mod Holds
+pub mod Pieces
+pub mod Maps
+pub mod Cut
+pub mod Kept
+pub mod Claims

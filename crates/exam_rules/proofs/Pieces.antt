@@ -1,0 +1,121 @@
+-- Files of pieces: made by create and appends, and each piece found and fetched in a buffer that holds its file.
+use mathlib.Core.Path.{_≡_, refl, sym, ap, _∙_}
+use mathlib.Core.List.{List, [], _∷_, _++_, append-assoc, append-nil}
+use Prim.Native.Nat.{ℕ, suc, _+_, _^_, _≤_, _<_}
+use native.Mathlib.Omega.{arith}
+use native.Mathlib.Nat.{add-zero, zero-add}
+use lib.ListN.{length, getD, take, length-append}
+use lib.Seq.{getD-at, take-append-seam, drop-append-seam}
+use Rattle.words.proofs.Each.{Each}
+use Rattle.answers.specs.Answers.{over}
+use Rattle.answers.proofs.Checks.{afterwards-new}
+use Rattle.block_rules.specs.Block.{block, count, wordsIn}
+use Rattle.block_rules.specs.Calls.{unpacked}
+use Rattle.block_rules.specs.Numbers.{blockNumber}
+use Rattle.block_rules.specs.declared.Unpacked.{Unpacked}
+use Rattle.block_rules.proofs.Accept.{unpacked-of}
+use Rattle.exam_rules.specs.File.{Entry, entry, File, blockOf, appended}
+use Rattle.exam_rules.specs.Reading.{fileIn, indexOf, entryOf}
+use Rattle.exam_rules.specs.Numbers.{findNumber, blockIn}
+use Rattle.exam_rules.specs.Calls.{Fetches, Creates, Appends}
+use Rattle.exam_rules.specs.Pieces.{Piece, blocksOf, entriesOf, fileOfPieces}
+use Rattle.exam_rules.specs.declared.Made.{Made}
+use Rattle.exam_rules.proofs.Directory.{index-of-entry}
+use Rattle.exam_rules.proofs.Changes.{changes-number}
+use Rattle.exam_rules.proofs.Accept.{find-passes, find-takes, takes-fetch, create-takes}
+use Rattle.exam_rules.proofs.Holds.{good-empty, Holds, changed-holds, holds-parts, holds-opens, appended-holds}
+
+-- ---- pieces and then pieces
+
+blocks-append : (ps qs : List Piece) → blocksOf (ps ++ qs) ≡ blocksOf ps ++ blocksOf qs
+blocks-append [] qs = refl
+blocks-append (p ∷ ps) qs = ap (λ (l : List ℕ). p .block ++ l) (blocks-append ps qs) ∙ sym (append-assoc (p .block) (blocksOf ps) (blocksOf qs))
+
+entries-append : (at : ℕ) (ps qs : List Piece) → entriesOf at (ps ++ qs) ≡ entriesOf at ps ++ entriesOf (at + length (blocksOf ps)) qs
+entries-append at [] qs = rw (add-zero at)
+entries-append at (p ∷ ps) qs =
+    let e : at + length (p .block) + length (blocksOf ps) ≡ at + length (p .block ++ blocksOf ps) = rw length-append (omega arith) in
+    ap (λ (l : List Entry). entry (p .slot) at (length (p .block)) ∷ l) (entries-append (at + length (p .block)) ps qs ∙ rw e)
+
+pub length-pieces : (at : ℕ) (ps : List Piece) → length (entriesOf at ps) ≡ length ps
+length-pieces at [] = refl
+length-pieces at (p ∷ ps) = ap suc (length-pieces (at + length (p .block)) ps)
+
+-- pieces whose blocks are all whole
+abbrev pub Wholes : List Piece → Type 0
+Wholes ps = Each (λ (p : Piece). blockNumber (p .block) ≡ 0) ps
+
+-- ---- create and append
+
+-- an accepted create leaves the file of no pieces
+pub created-pieces : {exam t : ℕ} {b b' : List ℕ} {r : Made} → exam < 2 ^ 64 → Creates b exam t r b' → r .number ≡ 0 → Holds b' (r .length) (fileOfPieces exam t [])
+created-pieces {exam} {t} {b} w c e =
+    let k = create-takes exam t (length b) (sym (changes-number c) ∙ e) in
+    changed-holds c e (good-empty exam t (k .most) (k .named) w)
+
+-- such a file with a block more is the file of one piece more
+pub one-piece-more : (exam t : ℕ) (ps : List Piece) (p : Piece) → appended (fileOfPieces exam t ps) (p .slot) (p .block) ≡ fileOfPieces exam t (ps ++ (p ∷ []))
+one-piece-more exam t ps p = rw (blocks-append ps (p ∷ []), append-nil, entries-append 0 ps (p ∷ []), zero-add)
+
+-- an accepted append leaves the file of one piece more
+pub appended-pieces : (exam t : ℕ) (ps : List Piece) {b : List ℕ} {l slot : ℕ} {words fcm dfcm bench b' fcm' dfcm' bench' : List ℕ} {r : Made} → Holds b l (fileOfPieces exam t ps)
+    → slot < 2 ^ 32 → Appends b l exam slot words fcm dfcm bench r b' fcm' dfcm' bench' → r .number ≡ 0
+    → Holds b' (r .length) (fileOfPieces exam t (ps ++ (record { slot = slot; block = block t words } ∷ [])))
+appended-pieces exam t ps h w c e = rw (← one-piece-more exam t ps _) (rw (holds-parts h) at (appended-holds (rw (holds-parts h) (h .good)) w c e))
+
+-- ---- a piece in a buffer that holds its file
+
+-- the buffer holds a file of pieces, and p is one of them
+pub record HoldsPiece (b : List ℕ) (l exam t : ℕ) (p : Piece) : Type 0 where
+  pub first : List Piece
+  pub rest : List Piece
+  pub holds : Holds b l (fileOfPieces exam t (first ++ p ∷ rest))
+
+-- a block that is whole and reads as words
+pub record ReadsAs (t : ℕ) (b words : List ℕ) : Type 0 where
+  pub whole : blockNumber b ≡ 0
+  pub many : count b ≡ length words
+  pub reads : wordsIn t b ≡ words
+
+module _ {b : List ℕ} {l exam t : ℕ} {p : Piece} (h : HoldsPiece b l exam t p) where
+  abbrev file : File
+  file = fileOfPieces exam t (h .first ++ p ∷ h .rest)
+
+  -- its entry
+  abbrev its : Entry
+  its = entry (p .slot) (length (blocksOf (h .first))) (length (p .block))
+
+  entry-at : (d : Entry) → getD (file .entries) (length (h .first)) d ≡ its
+  entry-at d = rw (entries-append 0 (h .first) (p ∷ h .rest), zero-add (length (blocksOf (h .first)))) (getD-at (entriesOf 0 (h .first)) its _ d _ (length-pieces 0 (h .first)))
+
+  below : length (h .first) < length (file .entries)
+  below = omega (arith, length-pieces 0 (h .first ++ p ∷ h .rest), length-append (h .first) (p ∷ h .rest))
+
+  slot-index : indexOf (p .slot) (file .entries) ≡ length (h .first)
+  slot-index = rw (entry-at its) at (index-of-entry file (length (h .first)) its (h .holds .good .directory) below)
+
+  -- its slot is found
+  pub piece-found : findNumber b l exam (p .slot) ≡ 0
+  piece-found = find-passes b l exam (p .slot) (holds-opens (h .holds)) (rw (holds-parts (h .holds), slot-index) below)
+
+  -- its block is the piece's
+  pub piece-block : blockIn b l (p .slot) ≡ p .block
+  unfolding blockIn blockOf entryOf
+  piece-block = rw (holds-parts (h .holds), slot-index, entry-at _, blocks-append (h .first) (p ∷ h .rest), drop-append-seam) (take-append-seam (p .block) (blocksOf (h .rest)))
+
+  -- fetching it answers the words' count and leaves the words
+  pub piece-fetched : {words fcm dfcm room fcm' dfcm' room' : List ℕ} {r : Unpacked} → ReadsAs t (p .block) words → Fetches b l exam (p .slot) fcm dfcm room r fcm' dfcm' room'
+      → length fcm ≡ 2 ^ t → length dfcm ≡ 2 ^ t → length words ≤ length room → (r ≡ record { number = 0; count = length words }) × (room' ≡ over words room)
+  unfolding unpacked
+  piece-fetched {room = room} s c lf ld enough =
+      let z =
+      takes-fetch b l exam (p .slot) _ _ (length room)
+      (record {
+        finds = find-takes b l exam (p .slot) piece-found;
+        fcmLong = rw (holds-parts (h .holds)) lf;
+        dfcmLong = ld ∙ sym lf;
+        whole = rw piece-block (s .whole);
+        enough = rw (piece-block, s .many) enough;
+      }) in
+      let t-is : fileIn (take l b) .t ≡ t = ap (λ (x : File). x .t) (holds-parts (h .holds)) in
+      (c .answer ∙ unpacked-of _ _ _ z (afterwards-new _ _ 0 z ∙ rw piece-block (s .many)), c .wordsLeft ∙ afterwards-new _ _ room z ∙ rw (piece-block, t-is, s .reads))

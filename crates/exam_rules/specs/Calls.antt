@@ -1,0 +1,124 @@
+-- What each call on a file answers, and what it leaves in everything lent to it, refused or not.
+use mathlib.Core.Path.{_≡_}
+use Prim.Native.Nat.{ℕ}
+use mathlib.Core.List.{List, [], _∷_}
+use lib.ListN.{length, take}
+use Rattle.answers.specs.Answers.{firstFailure, afterwards, over}
+use Rattle.block_rules.specs.Predictors.{Memory, cleared, after}
+use Rattle.block_rules.specs.Block.{block, wordsIn}
+use Rattle.block_rules.specs.Calls.{unpacked}
+use Rattle.block_rules.specs.declared.Unpacked.{Unpacked}
+use Rattle.exam_rules.specs.File.{File, fileLength, fileBytes, empty, appended}
+use Rattle.exam_rules.specs.Reading.{fileIn, entryOf}
+use Rattle.exam_rules.specs.Numbers.{openInNumber, findNumber, fetchNumber, blockIn, createNumber, appendNumberTo}
+use Rattle.exam_rules.specs.declared.Located.{Located}
+use Rattle.exam_rules.specs.declared.Made.{Made}
+use Rattle.exam_rules.specs.declared.Trailer.{Trailer}
+use Rattle.exam_rules.specs.declared.Opened.{Opened}
+use Rattle.exam_rules.specs.declared.Opened.the-variants.{Done, Refused}
+
+-- ---- open
+
+-- what opening tells of a file: edition, t, entries, the directory's start
+abbrev pub trailerOf : File → Trailer
+trailerOf f = record { edition = f .edition; t = f .t; entries = length (f .entries); start = length (f .body) }
+
+-- open answers the trailer or the number
+unfoldable pub opened : List ℕ → ℕ → ℕ → Opened
+opened b l exam = afterwards (openInNumber b l exam) (Done (trailerOf (fileIn (take l b)))) (Refused (openInNumber b l exam))
+
+-- the number that an opening answers, and its values: all 0 where it is refused
+abbrev pub openedNumber : Opened → ℕ
+openedNumber (Done tr) = 0
+openedNumber (Refused k) = k
+
+abbrev pub openedT : Opened → ℕ
+openedT (Done tr) = tr .t
+openedT (Refused k) = 0
+
+abbrev pub openedEntries : Opened → ℕ
+openedEntries (Done tr) = tr .entries
+openedEntries (Refused k) = 0
+
+abbrev pub openedStart : Opened → ℕ
+openedStart (Done tr) = tr .start
+openedStart (Refused k) = 0
+
+-- ---- find
+
+-- find(file, length, exam, slot, number): the block as a part of the file, or an empty part; the number, refused or not
+pub record Finds (b : List ℕ) (l exam slot : ℕ) (part : List ℕ) (number : ℕ) : Type 0 where
+  pub numberLeft : number ≡ findNumber b l exam slot
+  pub answer : part ≡ afterwards (findNumber b l exam slot) (blockIn b l slot) []
+
+-- ---- locate
+
+-- locate(file, length, exam, slot): find's number, and the block's offset in the file and its length, both 0 where it is refused
+unfoldable pub located : List ℕ → ℕ → ℕ → ℕ → Located
+located b l exam slot =
+    record {
+      number = findNumber b l exam slot;
+      offset = afterwards (findNumber b l exam slot) (entryOf slot (fileIn (take l b)) .offset) 0;
+      size = afterwards (findNumber b l exam slot) (entryOf slot (fileIn (take l b)) .size) 0;
+    }
+
+-- ---- fetch
+
+-- fetch(file, length, exam, slot, fcm, dfcm, words): as unpack leaves them, with tables of 2 ^ t words
+module _ (b : List ℕ) (l exam slot : ℕ) (fcm dfcm words : List ℕ) where
+  abbrev pub fetchesNumber : ℕ
+  fetchesNumber = fetchNumber b l exam slot (length fcm) (length dfcm) (length words)
+
+  abbrev pub fetchesT : ℕ
+  fetchesT = fileIn (take l b) .t
+
+  abbrev pub fetchesWords : List ℕ
+  fetchesWords = wordsIn fetchesT (blockIn b l slot)
+
+  abbrev pub fetchesMemory : Memory
+  fetchesMemory = after fetchesT (cleared fetchesT) fetchesWords
+
+  pub record Fetches (r : Unpacked) (fcm' dfcm' words' : List ℕ) : Type 0 where
+    pub answer : r ≡ unpacked fetchesNumber (blockIn b l slot)
+    pub fcmLeft : fcm' ≡ afterwards fetchesNumber (fetchesMemory .fcm) fcm
+    pub dfcmLeft : dfcm' ≡ afterwards fetchesNumber (fetchesMemory .dfcm) dfcm
+    pub wordsLeft : words' ≡ afterwards fetchesNumber (over fetchesWords words) words
+
+-- ---- calls that make or change a file
+
+-- such a call answers the number and the file's new length
+unfoldable pub made : ℕ → File → Made
+made k f = record { number = k; length = afterwards k (fileLength f) 0 }
+
+-- where the number is 0 the buffer b holds the file f and then its old content; else it is as it was
+pub record Changes (k : ℕ) (f : File) (b : List ℕ) (r : Made) (b' : List ℕ) : Type 0 where
+  pub answer : r ≡ made k f
+  pub fileLeft : b' ≡ afterwards k (over (fileBytes f) b) b
+
+-- create(file, exam, t): an empty file
+abbrev pub Creates : List ℕ → ℕ → ℕ → Made → List ℕ → Type 0
+Creates b exam t r b' = Changes (createNumber exam t (length b)) (empty exam t) b r b'
+
+-- append(file, length, exam, slot, words, fcm, dfcm, bench): the file with the block of the words appended, the tables as pack leaves them, the block in the bench
+module _ (b : List ℕ) (l exam slot : ℕ) (words fcm dfcm bench : List ℕ) where
+  abbrev pub appendsNumber : ℕ
+  appendsNumber =
+      firstFailure
+      (openInNumber b l exam
+      ∷ appendNumberTo (fileIn (take l b)) slot (length words) (length fcm) (length dfcm) l (length b) (length bench)
+      ∷ [])
+
+  abbrev pub appendsT : ℕ
+  appendsT = fileIn (take l b) .t
+
+  abbrev pub appendsBlock : List ℕ
+  appendsBlock = block appendsT words
+
+  abbrev pub appendsMemory : Memory
+  appendsMemory = after appendsT (cleared appendsT) words
+
+  pub record Appends (r : Made) (b' fcm' dfcm' bench' : List ℕ) : Type 0 where
+    pub file : Changes appendsNumber (appended (fileIn (take l b)) slot appendsBlock) b r b'
+    pub fcmLeft : fcm' ≡ afterwards appendsNumber (appendsMemory .fcm) fcm
+    pub dfcmLeft : dfcm' ≡ afterwards appendsNumber (appendsMemory .dfcm) dfcm
+    pub benchLeft : bench' ≡ afterwards appendsNumber (over appendsBlock bench) bench

@@ -1,0 +1,19 @@
+-- The file of a list of maps: what create and then an append for each map make.
+use Prim.Native.Nat.{ℕ}
+use mathlib.Core.List.{List, map}
+use Rattle.block_rules.specs.Block.{block}
+use Rattle.exam_rules.specs.File.{File}
+use Rattle.exam_rules.specs.Pieces.{Piece, fileOfPieces}
+
+-- a map: its slot and its words
+pub record Map : Type 0 where
+  pub slot : ℕ
+  pub words : List ℕ
+
+-- the piece of a map: its slot and the block of its words
+abbrev pub pieceOf : ℕ → Map → Piece
+pieceOf t m = record { slot = m .slot; block = block t (m .words) }
+
+-- the file of maps: the file of their pieces
+abbrev pub fileOf : ℕ → ℕ → List Map → File
+fileOf exam t ms = fileOfPieces exam t (map (pieceOf t) ms)

@@ -1,0 +1,30 @@
+// The rules of an exam file. This crate has no function: its definitions are in specs/, their laws and
+// what is promised of them in proofs/. Here are the structs that both the rules and the code speak of.
+
+// What opening tells of a file: the edition, t, the number of entries, and where the directory
+// starts.
+pub struct Trailer {
+    pub edition: usize,
+    pub t: usize,
+    pub entries: usize,
+    pub start: usize,
+}
+
+// What open answers.
+pub enum Opened {
+    Done(Trailer),
+    Refused(u32),
+}
+
+// What locate answers: the number, and where the block stands in the file and its size, or 0 and 0.
+pub struct Located {
+    pub number: u32,
+    pub offset: usize,
+    pub size: usize,
+}
+
+// What a call answers that makes or changes a file: the number, and the file's new length or 0.
+pub struct Made {
+    pub number: u32,
+    pub length: usize,
+}

@@ -1,6 +1,0 @@
-pub mod File
-pub mod Reading
-pub mod Numbers
-pub mod Calls
-pub mod Maps
-pub mod Inside

@@ -1,0 +1,467 @@
+/* The worked cases, and what each call refuses. Prints what went in and what came out, a line for each case.
+ *
+ * worked.expected has what must be printed. It was written by hand and with an implementation that is neither the
+ * library nor the reference, so this is more than a comparison of the two. Words and bytes are in hex, all other
+ * numbers in decimal. Room and tables are lent as long as a line says; compare looks at what lies around them.
+ */
+#include "coil.h"
+#include "hex.h"
+
+#include <stdio.h>
+#include <string.h>
+
+#define MOST_TABLE 131072u          /* one size above the largest table there may be */
+#define NOT_ANSWERED 99u            /* in each lent number before a call, so that a call that leaves it is seen */
+
+static uint64_t fcm[MOST_TABLE];
+static uint64_t dfcm[MOST_TABLE];
+static const uint64_t many_words[COIL_MOST_WORDS + 1];
+static const uint64_t zero[1] = { 0 };
+static const uint64_t one[7] = { 1, 1, 1, 1, 1, 1, 1 };
+
+/* The file of a group of cases. The buffer is lent with file_len bytes. */
+static uint8_t file[128];
+static size_t file_len;
+static uint8_t bench[128];
+
+/* ---- Printing ---- */
+
+static void print_bytes(const uint8_t *bytes, size_t count)
+{
+    for (size_t i = 0; i < count; i++) {
+        printf(" %02x", bytes[i]);
+    }
+}
+
+static void print_words(const uint64_t *words, size_t count)
+{
+    for (size_t i = 0; i < count; i++) {
+        printf(" %llx", (unsigned long long)words[i]);
+    }
+}
+
+static void print_given_bytes(const uint8_t *bytes, size_t count)
+{
+    if (count == 0) {
+        printf(" no bytes");
+    }
+    print_bytes(bytes, count);
+}
+
+/* Too many words for a line are only counted. */
+static void print_given_words(const uint64_t *words, size_t count)
+{
+    if (count == 0) {
+        printf(" no words");
+    } else if (count > 8) {
+        printf(" %zu words", count);
+    } else {
+        print_words(words, count);
+    }
+}
+
+/* Where a call answers more than there is room for, its number is printed, and nothing outside the room. */
+static size_t at_most(size_t room, size_t answered)
+{
+    return answered < room ? answered : room;
+}
+
+/* ---- The calls on blocks ---- */
+
+/* What the tables hold before a group of cases. A call must clear it. */
+static void fill_tables(uint64_t in_fcm, uint64_t in_dfcm)
+{
+    for (size_t i = 0; i < MOST_TABLE; i++) {
+        fcm[i] = in_fcm;
+        dfcm[i] = in_dfcm;
+    }
+}
+
+/* Packs words into room for 64 bytes. */
+static void pack(const uint64_t *words, size_t count, size_t fcm_len, size_t dfcm_len)
+{
+    uint8_t out[64];
+    size_t length = NOT_ANSWERED;
+    memset(out, 0xEE, sizeof out);
+    printf("pack");
+    print_given_words(words, count);
+    printf(", tables of %zu and %zu", fcm_len, dfcm_len);
+    uint32_t answer = coil_pack(words, count, fcm, fcm_len, dfcm, dfcm_len, out, sizeof out, &length);
+    printf(": answers %u, length %zu", (unsigned)answer, length);
+    print_bytes(out, at_most(sizeof out, length));
+    printf("\n");
+}
+
+static void check_bytes(const uint8_t *block, size_t length)
+{
+    printf("check");
+    print_given_bytes(block, length);
+    printf(": answers %u\n", (unsigned)coil_check(block, length));
+}
+
+static void check(const char *hex)
+{
+    uint8_t block[16] = { 0 };
+    size_t length = from_hex(hex, block);
+    check_bytes(block, length);
+}
+
+/* Unpacks into room for at most 3 words. */
+static void unpack(const char *hex, size_t fcm_len, size_t dfcm_len, size_t room)
+{
+    uint8_t block[16] = { 0 };
+    uint64_t words[3] = { 0xEE, 0xEE, 0xEE };
+    size_t length = from_hex(hex, block), count = NOT_ANSWERED;
+    printf("unpack");
+    print_given_bytes(block, length);
+    printf(", tables of %zu and %zu, room for %zu", fcm_len, dfcm_len, room);
+    uint32_t answer = coil_unpack(block, length, fcm, fcm_len, dfcm, dfcm_len, words, room, &count);
+    printf(": answers %u, count %zu", (unsigned)answer, count);
+    print_words(words, at_most(room, count));
+    printf("\n");
+}
+
+/* ---- The calls on files ---- */
+
+static void create(uint64_t exam, uint32_t t)
+{
+    size_t length = NOT_ANSWERED;
+    printf("create exam %llu, t %u, in %zu bytes", (unsigned long long)exam, (unsigned)t, file_len);
+    uint32_t answer = coil_create(file, file_len, exam, t, &length);
+    printf(": answers %u, length %zu\n", (unsigned)answer, length);
+}
+
+static void open_file(size_t length, uint64_t exam)
+{
+    printf("open %zu bytes for exam %llu", length, (unsigned long long)exam);
+    printf(": answers %u\n", (unsigned)coil_open(file, file_len, length, exam));
+}
+
+static void append(size_t length, uint64_t exam, uint32_t slot, const uint64_t *words, size_t count,
+                   size_t fcm_len, size_t dfcm_len, size_t bench_len)
+{
+    size_t new_length = NOT_ANSWERED;
+    printf("append slot %u to exam %llu, words", (unsigned)slot, (unsigned long long)exam);
+    print_given_words(words, count);
+    printf(", tables of %zu and %zu, buffer %zu, bench %zu", fcm_len, dfcm_len, file_len, bench_len);
+    uint32_t answer = coil_append(file, file_len, length, exam, slot, words, count, fcm, fcm_len,
+                                  dfcm, dfcm_len, bench, bench_len, &new_length);
+    printf(": answers %u, length %zu\n", (unsigned)answer, new_length);
+}
+
+/* Appends the one word 0 with tables of 2 words. */
+static void append_zero(size_t length, uint64_t exam, uint32_t slot, size_t bench_len)
+{
+    append(length, exam, slot, zero, 1, 2, 2, bench_len);
+}
+
+/* Prints the bytes at the place that is answered, which must be in the file. */
+static void find(size_t length, uint64_t exam, uint32_t slot)
+{
+    size_t offset = NOT_ANSWERED, block_length = NOT_ANSWERED;
+    printf("find slot %u of exam %llu", (unsigned)slot, (unsigned long long)exam);
+    uint32_t answer = coil_find(file, file_len, length, exam, slot, &offset, &block_length);
+    printf(": answers %u", (unsigned)answer);
+    if (offset > length || block_length > length - offset) {
+        printf(" and a place outside the file");
+    } else {
+        print_bytes(file + offset, block_length);
+    }
+    printf("\n");
+}
+
+/* Fetches into room for at most 8 words. */
+static void fetch(size_t length, uint64_t exam, uint32_t slot, size_t fcm_len, size_t dfcm_len, size_t room)
+{
+    uint64_t words[8] = { 0xEE, 0xEE, 0xEE, 0xEE, 0xEE, 0xEE, 0xEE, 0xEE };
+    size_t count = NOT_ANSWERED;
+    printf("fetch slot %u of exam %llu from %zu bytes", (unsigned)slot, (unsigned long long)exam, length);
+    printf(", tables of %zu and %zu, room for %zu", fcm_len, dfcm_len, room);
+    uint32_t answer = coil_fetch(file, file_len, length, exam, slot, fcm, fcm_len, dfcm, dfcm_len,
+                                 words, room, &count);
+    printf(": answers %u, count %zu", (unsigned)answer, count);
+    print_words(words, at_most(room, count));
+    printf("\n");
+}
+
+/* What the memory holds before a group of cases: no file, and something in the tables. */
+static void lend_buffer(size_t length)
+{
+    memset(file, 0xEE, sizeof file);
+    memset(bench, 0xEE, sizeof bench);
+    fill_tables(7, 7);
+    file_len = length;
+}
+
+/* The file of 53 bytes in a buffer of 61: exam 7, t 10, and the one word 0 in slot 3. Prints nothing, since the
+ * same two calls are cases already. */
+static void make_one_map(void)
+{
+    size_t length;
+    lend_buffer(61);
+    coil_create(file, file_len, 7, 10, &length);
+    coil_append(file, file_len, 32, 7, 3, zero, 1, fcm, 1024, dfcm, 1024, bench, 17, &length);
+}
+
+/* ---- The cases of blocks ---- */
+
+static void blocks_worked_by_hand(void)
+{
+    const uint64_t ramp[] = { 1, 2, 3 }, one_three[] = { 1, 3 }, four_bytes[] = { 0x80000000 };
+    const uint64_t full[] = { UINT64_MAX, 0 };
+    const uint64_t equal[] = {
+        UINT64_C(0x3FF0000000000000), UINT64_C(0x3FF0000000000000), UINT64_C(0x3FF0000000000000)
+    };
+    printf("Blocks worked by hand\n");
+    fill_tables(0x1234, 0x5678);
+    pack(zero, 0, 1, 1);
+    pack(zero, 1, 1, 1);
+    pack(one, 1, 1, 1);
+    pack(one, 2, 1, 1);
+    pack(ramp, 3, 1, 1);
+    pack(one_three, 2, 1, 1);
+    pack(four_bytes, 1, 1, 1);
+    pack(full, 2, 1, 1);
+    pack(equal, 3, 64, 64);
+}
+
+/* The ten bytes of word 1 with the last byte 00. No packer writes them; they are accepted and give word 0. */
+static void only_read(void)
+{
+    const char *ten = "01 00 00 00 0a 00 00 00 67 00";
+    printf("A block that is only read\n");
+    fill_tables(0x1234, 0x5678);
+    check(ten);
+    unpack(ten, 1, 1, 2);
+}
+
+/* Tables of no length, of three words, of 131,072 words, and tables that differ; then too many words; then too
+ * little room. */
+static void refusals_to_pack(void)
+{
+    printf("Refusals to pack\n");
+    fill_tables(7, 7);
+    pack(one, 1, 0, 0);
+    pack(one, 1, 3, 3);
+    pack(one, 1, MOST_TABLE, MOST_TABLE);
+    pack(one, 1, 1, 2);
+    pack(one, 1, 2, 1);
+    pack(many_words, COIL_MOST_WORDS + 1, 1, 1);
+    pack(one, 7, 1, 1);
+}
+
+/* A count of 2^32 - 1; a length field of 0 and of 2^32 - 1; codes that add up to another length; a filler that
+ * is not 7; a block cut anywhere, the whole block, and one with a byte added. */
+static void refusals_to_check(void)
+{
+    uint8_t added[12] = { 0 };
+    size_t length = from_hex("03 00 00 00 0b 00 00 00 6f f7 01 00", added);
+    printf("Refusals to check\n");
+    check("ff ff ff ff 08 00 00 00");
+    check("01 00 00 00 00 00 00 00 77");
+    check("01 00 00 00 ff ff ff ff 77");
+    check("01 00 00 00 09 00 00 00 67");
+    check("01 00 00 00 09 00 00 00 66");
+    check("09 00 00 00 09 00 00 00 77");
+    check("01 00 00 00 09 00 00 00 76");
+    for (size_t cut = 0; cut <= length; cut++) {
+        check_bytes(added, cut);
+    }
+}
+
+/* Tables that differ, before all else; then what check refuses; then too little room for the words. */
+static void refusals_to_unpack(void)
+{
+    const char *whole = "03 00 00 00 0b 00 00 00 6f f7 01";
+    printf("Refusals to unpack\n");
+    fill_tables(7, 7);
+    unpack("", 1, 2, 3);
+    unpack("", 1, 1, 3);
+    unpack("01 00 01 00 09 00 00 00 77", 1, 1, 3);
+    unpack("01 00 00 00 09 00 00 00 67", 1, 1, 3);
+    unpack("01 00 00 00 09 00 00 00 76", 1, 1, 3);
+    unpack(whole, 1, 1, 2);
+    unpack(whole, 1, 1, 3);
+}
+
+/* ---- The cases of files ---- */
+
+/* The empty file of exam 7, the file of 53 bytes, and what it answers. */
+static void files_worked_by_hand(void)
+{
+    printf("Files worked by hand\n");
+    lend_buffer(128);
+    create(7, 10);
+    print_bytes(file, 32);
+    printf("\n");
+    append(32, 7, 3, zero, 1, 1024, 1024, 17);
+    print_bytes(file, 53);
+    printf("\n");
+    open_file(53, 7);
+    find(53, 7, 3);
+    fetch(53, 7, 3, 1024, 1024, 8);
+}
+
+/* A file of one map, whose block holds the bytes of a directory and a trailer. Its first 56 bytes open, and the
+ * slot that they claim is refused. */
+static void cut_file(void)
+{
+    const uint64_t exam = UINT64_C(0x1716151413121110);
+    const uint64_t words[7] = {
+        1, UINT64_C(0xC00000000040303), UINT64_C(0xC00006F63040303), UINT64_C(0xC10006F63056F6A),
+        UINT64_C(0x2007167A77167D7B), UINT64_C(0x1807167A76167D7B), UINT64_C(0x1907167A76167D7B)
+    };
+    printf("A file that opens although it is cut\n");
+    lend_buffer(128);
+    create(exam, 0);
+    append(32, exam, 3, words, 7, 1, 1, 68);
+    fetch(101, exam, 3, 1, 1, 8);
+    open_file(56, exam);
+    fetch(56, exam, 0x4030201, 1, 1, 8);
+    fetch(56, exam, 3, 1, 1, 8);
+}
+
+/* What create refuses. Then what open refuses of a length: under 32, not the one stated, beyond its buffer; and
+ * the wrong exam numbers. */
+static void refusals_to_create_and_open(void)
+{
+    printf("Refusals to create and open\n");
+    lend_buffer(128);
+    create(0, 10);
+    create(7, 17);
+    file_len = 31;
+    create(7, 10);
+    file_len = 128;
+    create(7, 10);
+    open_file(32, 8);
+    open_file(32, 0);
+    open_file(31, 7);
+    open_file(33, 7);
+    open_file(129, 7);
+    open_file(SIZE_MAX, 7);
+}
+
+/* Opens the file of 53 bytes with one byte changed. */
+static void changed(size_t at, uint8_t to)
+{
+    make_one_map();
+    file[at] = to;
+    printf("byte %zu is %u: ", at, (unsigned)to);
+    open_file(53, 7);
+}
+
+/* What open refuses of a trailer: the mark, the edition, t of 17, the exam number, a distance that is not 32 + 12
+ * times the entries, one larger than the file, 1,025 entries, another length. What it refuses of a directory: an
+ * offset that is not 0, a length that leaves a hole, overlaps, is far too large, or is under 8. */
+static void refusals_of_a_field(void)
+{
+    printf("The file of 53 bytes, first as it is, then with one byte changed\n");
+    changed(8, 0x77);
+    changed(21, 0x64);
+    changed(25, 2);
+    changed(27, 17);
+    changed(29, 8);
+    changed(37, 45);
+    changed(40, 1);
+    changed(42, 4);
+    changed(45, 54);
+    changed(13, 1);
+    changed(17, 8);
+    changed(17, 10);
+    changed(20, 0xFF);
+    changed(17, 7);
+}
+
+/* A directory whose second slot is changed: equal to the first, and below it. */
+static void slots_that_do_not_ascend(void)
+{
+    printf("A file of two maps with its second slot changed\n");
+    lend_buffer(128);
+    create(7, 1);
+    append_zero(32, 7, 4, 17);
+    append_zero(53, 7, 5, 17);
+    open_file(74, 7);
+    file[30] = 4;
+    printf("second slot 4: ");
+    open_file(74, 7);
+    file[30] = 3;
+    printf("second slot 3: ");
+    open_file(74, 7);
+}
+
+/* The lowest and the highest slot there is; another slot, and another exam number. */
+static void refusals_to_find(void)
+{
+    printf("Refusals to find\n");
+    lend_buffer(128);
+    create(7, 1);
+    append_zero(32, 7, 0, 17);
+    append(53, 7, UINT32_MAX, one, 1, 2, 2, 17);
+    find(75, 7, 0);
+    find(75, 7, UINT32_MAX);
+    find(75, 7, 1);
+    find(75, 8, 0);
+}
+
+/* Another exam number, another slot, tables that differ, tables of another size; then too little room, and a block
+ * with 6 for its filler. */
+static void refusals_to_fetch(void)
+{
+    printf("Refusals to fetch\n");
+    lend_buffer(128);
+    create(7, 1);
+    append_zero(32, 7, 5, 17);
+    fetch(53, 8, 5, 2, 2, 8);
+    fetch(53, 7, 6, 2, 2, 8);
+    fetch(53, 7, 5, 1, 2, 8);
+    fetch(53, 7, 5, 4, 4, 8);
+    fetch(53, 7, 5, 2, 2, 8);
+    make_one_map();
+    fetch(53, 7, 3, 1024, 1024, 0);
+    make_one_map();
+    file[8] = 0x76;
+    printf("byte 8 is 118: ");
+    fetch(53, 7, 3, 1024, 1024, 8);
+}
+
+/* Another exam number, tables that differ, too many words, and room that is one byte short in the buffer or in the
+ * bench; then at exactly those limits; then a slot that is not above the last. */
+static void refusals_to_append(void)
+{
+    printf("Refusals to append\n");
+    lend_buffer(61);
+    create(7, 1);
+    file_len = 60;
+    create(7, 1);
+    file_len = 61;
+    append_zero(32, 8, 3, 17);
+    append(32, 7, 3, zero, 1, 1, 2, 17);
+    append(32, 7, 3, many_words, COIL_MOST_WORDS + 1, 2, 2, 17);
+    file_len = 60;
+    append_zero(32, 7, 3, 17);
+    file_len = 61;
+    append_zero(32, 7, 3, 16);
+    append_zero(32, 7, 3, 17);
+    append_zero(53, 7, 3, 17);
+    append_zero(53, 7, 2, 17);
+}
+
+int main(void)
+{
+    /* Where a call ends the program, the line up to that call is still printed. */
+    setvbuf(stdout, NULL, _IONBF, 0);
+    blocks_worked_by_hand();
+    only_read();
+    refusals_to_pack();
+    refusals_to_check();
+    refusals_to_unpack();
+    files_worked_by_hand();
+    cut_file();
+    refusals_to_create_and_open();
+    refusals_of_a_field();
+    slots_that_do_not_ascend();
+    refusals_to_find();
+    refusals_to_fetch();
+    refusals_to_append();
+    return 0;
+}
