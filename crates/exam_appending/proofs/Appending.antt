@@ -22,10 +22,10 @@ use Rattle.exam_rules.specs.declared.Trailer.{Trailer}
 use Rattle.exam_rules.specs.declared.Opened.{Opened}
 use Rattle.exam_rules.specs.declared.Opened.the-variants.{Done, Refused}
 use Rattle.exam_rules.proofs.Opens.{refused-tells, done-tells, standing}
-use Rattle.exam_rules.proofs.Parts.{entries-are, t-small}
+use Rattle.exam_rules.proofs.Parts.{tells-edition, tells-t, tells-entries, tells-start, entries-are, t-small}
 use Rattle.exam_rules.proofs.Changes.{change-refused, change-done, makes}
 use Rattle.exam_rules.proofs.Entries.{directory-snoc}
-use Rattle.exam_rules.proofs.Stands.{stands-many, stands-t, stands-ends, stands-long, stands-directory, stands-edition, stands-exam, stands-body}
+use Rattle.exam_rules.proofs.Stands.{stands-ends, stands-body, stands-exam, stands-directory}
 use Rattle.exam_rules.proofs.Accept.{Appendable, appendable}
 use Rattle.exam_writing.specs.Inside.{Adding, Adds}
 
@@ -49,21 +49,22 @@ next-of f (suc m) at x h e =
 -- ---- the file that adding a block makes
 
 module _ (b : List ℕ) (l exam : ℕ) (tr : Trailer) (o : opened b l exam ≡ Done tr) (h : Bytes b) (slot : ℕ) (blk : List ℕ) where
-  pub grown : (b' : List ℕ) (size : ℕ) → Adding b blk (tr .start) (tr .entries) → Adds b blk (tr .start) (tr .entries) slot (tr .edition) (tr .t) exam b' size
+  grown : (b' : List ℕ) (size : ℕ) → Adding b blk (tr .start) (tr .entries) → Adds b blk (tr .start) (tr .entries) slot (tr .edition) (tr .t) exam b' size
       → (size ≡ fileLength (appended (fileIn (take l b)) slot blk)) × (b' ≡ over (fileBytes (appended (fileIn (take l b)) slot blk)) b)
   grown b' size r a =
+      let st = standing b l exam tr o in
       let f = fileIn (take l b) in
       let g = appended f slot blk in
       let old = take (12 * tr .entries) (drop (tr .start) b) in
       let new = entryBytes (entry slot (tr .start) (length blk)) in
       let tra = trailerBytes (tr .edition) (tr .t) exam (tr .entries + 1) size in
-      let many : length (g .entries) ≡ tr .entries + 1 = length-append (f .entries) _ ∙ ap (λ (k : ℕ). k + 1) (stands-many b l exam tr o) in
-      let long : length (g .body) ≡ tr .start + length blk = length-append (f .body) blk ∙ ap (λ (k : ℕ). k + length blk) (stands-long b l exam tr o) in
+      let many : length (g .entries) ≡ tr .entries + 1 = length-append (f .entries) _ ∙ ap (λ (k : ℕ). k + 1) (tells-entries (take l b) tr st) in
+      let long : length (g .body) ≡ tr .start + length blk = length-append (f .body) blk ∙ ap (λ (k : ℕ). k + length blk) (tells-start (take l b) tr st) in
       let sz : size ≡ fileLength g = omega (arith, a .end, many, long) in
       let dir : directoryBytes (g .entries) ≡ old ++ new =
-      directory-snoc (f .entries) _ ∙ ap₂ (λ (x : List ℕ) (k : ℕ). x ++ entryBytes (entry slot k (length blk))) (stands-directory b l exam tr o h) (stands-long b l exam tr o) in
+      directory-snoc (f .entries) _ ∙ ap₂ (λ (x : List ℕ) (k : ℕ). x ++ entryBytes (entry slot k (length blk))) (stands-directory b l exam tr o h) (tells-start (take l b) tr st) in
       let x-is : blk ++ old ++ new ++ tra ≡ blk ++ (directoryBytes (g .entries) ++ trailerBytes (f .edition) (f .t) (f .exam) (length (g .entries)) (fileLength g)) =
-      rw (← sz, dir, many, stands-edition b l exam tr o, stands-t b l exam tr o, stands-exam b l exam tr o) (simp append-assoc) in (
+      rw (← sz, dir, many, tells-edition (take l b) tr st, tells-t (take l b) tr st, stands-exam b l exam tr o) (simp append-assoc) in (
         sz,
         makes b b' _ g (tr .start) blk (omega (arith, r .room)) (ap (λ (y : List ℕ). y ++ blk) (stands-body b l exam tr o)) (omega (arith, r .room, sz, a .end)) x-is (a .bytes),
       )
@@ -95,7 +96,7 @@ module _ (b : List ℕ) (l exam slot : ℕ) (words fcm dfcm bench : List ℕ) wh
     append-number : n ≡ appendsNumber b l exam slot words fcm dfcm bench
     append-number =
         let v : next ≡ nextSlot 0 (fileIn (take l b) .entries) = q ∙ ap (λ (es : List Entry). nextSlot 0 es) (entries-are (take l b) tr st) in
-        (rw (← (stands-many b l exam tr o), ← (stands-t b l exam tr o), v) at r) ∙ fails-later _ _ _ (done-tells b l exam tr o .0) (last-decides _)
+        (rw (← (tells-entries (take l b) tr st), ← (tells-t (take l b) tr st), v) at r) ∙ fails-later _ _ _ (done-tells b l exam tr o .0) (last-decides _)
 
     pub opened-refused : (n ≡ 0 → ⊥) → Appends b l exam slot words fcm dfcm bench (record { number = n; length = 0 }) b fcm dfcm bench
     opened-refused h = append-stopped n append-number h
@@ -105,10 +106,10 @@ module _ (b : List ℕ) (l exam slot : ℕ) (words fcm dfcm bench : List ℕ) wh
       opened-appendable = appendable _ _ _ _ _ _ _ _ _ _ (t-small (take l b) tr st) (sym r ∙ z)
 
       t-of : tOf (length fcm) ≡ fileIn (take l b) .t
-      t-of = ap tOf (opened-appendable .stores .size) ∙ t-of-power (tr .t) (t-small (take l b) tr st) ∙ sym (stands-t b l exam tr o)
+      t-of = ap tOf (opened-appendable .stores .size) ∙ t-of-power (tr .t) (t-small (take l b) tr st) ∙ sym (tells-t (take l b) tr st)
 
       module _ (k : ℕ) (fcm' dfcm' bench' : List ℕ) (p : PacksAll (tOf (length fcm)) words bench fcm' dfcm' bench' k) where
-        pub bench-front : take k bench' ≡ block (tOf (length fcm)) words
+        bench-front : take k bench' ≡ block (tOf (length fcm)) words
         bench-front = written-block p
 
         pub bench-within : k ≤ length bench'

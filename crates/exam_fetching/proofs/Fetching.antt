@@ -22,7 +22,7 @@ use Rattle.exam_rules.specs.declared.Trailer.{Trailer}
 use Rattle.exam_rules.specs.declared.Opened.{Opened}
 use Rattle.exam_rules.specs.declared.Opened.the-variants.{Done, Refused}
 use Rattle.exam_rules.proofs.Opens.{refused-tells, done-tells}
-use Rattle.exam_rules.proofs.Parts.{t-small}
+use Rattle.exam_rules.proofs.Parts.{tells-t, t-small}
 use Rattle.exam_rules.proofs.Accept.{tables-tell}
 use Rattle.exam_opening.specs.Inside.{PartOf}
 use Rattle.exam_opening.specs.declared.Part.{Part}
@@ -33,10 +33,7 @@ use Rattle.exam_fetching.specs.Inside.{fetchNumberOf, openedBlock, opene
 
 module _ (f : List ℕ) (tr : Trailer) (st : Standing f tr) (slot : ℕ) (fcm dfcm words : List ℕ) (p : Part) (w : PartOf f slot p) (n : ℕ)
     (q : n ≡ fetchNumberOf (p .number) (take (p .end - p .start) (drop (p .start) f)) (tr .t) (length fcm) (length dfcm) (length words)) where
-  t-is : tr .t ≡ fileIn f .t
-  t-is = ap (λ (x : Trailer). x .t) (st .trailer)
-
-  block-is : p .number ≡ 0 → take (p .end - p .start) (drop (p .start) f) ≡ openedBlock f slot fcm dfcm words
+  block-is : p .number ≡ 0 → take (p .end - p .start) (drop (p .start) f) ≡ openedBlock f slot
   block-is z = w .bytes ∙ afterwards-new _ _ _ z
 
   -- the number that the code finds is the right one, whether the slot is there or not
@@ -44,7 +41,7 @@ module _ (f : List ℕ) (tr : Trailer) (st : Standing f tr) (slot : ℕ) (fcm df
   unfolding fetchNumberOf
   number-is =
       either (eqb (p .number) 0)
-      (λ z. q ∙ rw (block-is (eqb-true _ _ z), t-is, w .number))
+      (λ z. q ∙ rw (block-is (eqb-true _ _ z), ← (tells-t f tr st), w .number))
       (λ z.
       let m = eqb-false (p .number) 0 z in
       q ∙ sym (fails-here _ _ _ refl m) ∙ fails-here _ _ _ (w .number) m)
@@ -73,7 +70,7 @@ module _ (f : List ℕ) (tr : Trailer) (st : Standing f tr) (slot : ℕ) (fcm df
     opened-done k fcm' dfcm' words' u =
         let x = none-fails _ _ (sym q ∙ z) in
         let s = tables-tell _ _ _ (none-fails _ _ (x .1) .0) in
-        let t : tOf (length fcm) ≡ fileIn f .t = ap tOf (s .0) ∙ t-of-power (tr .t) (t-small f tr st) ∙ t-is in
+        let t : tOf (length fcm) ≡ fileIn f .t = ap tOf (s .0) ∙ t-of-power (tr .t) (t-small f tr st) ∙ sym (tells-t f tr st) in
         where-done _ _ k _ fcm dfcm words fcm' dfcm' words' (sym number-is ∙ z) (rw (t, block-is (x .0)) at u)
 
 -- ---- from a buffer

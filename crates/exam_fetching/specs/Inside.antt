@@ -22,14 +22,15 @@ fetchNumberOf found b t f d room =
     ∷ unless (leb (count b) room) 3
     ∷ [])
 
+-- the block of a slot in a file that is open
+abbrev pub openedBlock : List ℕ → ℕ → List ℕ
+openedBlock f slot = blockOf (fileIn f) (entryOf slot (fileIn f))
+
 -- fetching a slot from a file that is open: 10, 1, block checks, 3; then as unpack leaves them, with tables of 2 ^ t words
 module _ (f : List ℕ) (slot : ℕ) (fcm dfcm words : List ℕ) where
-  abbrev pub openedBlock : List ℕ
-  openedBlock = blockOf (fileIn f) (entryOf slot (fileIn f))
-
   abbrev pub openedFetchNumber : ℕ
   openedFetchNumber =
-      fetchNumberOf (unless (ltb (indexOf slot (fileIn f .entries)) (length (fileIn f .entries))) 10) openedBlock (fileIn f .t) (length fcm) (length dfcm) (length words)
+      fetchNumberOf (unless (ltb (indexOf slot (fileIn f .entries)) (length (fileIn f .entries))) 10) (openedBlock f slot) (fileIn f .t) (length fcm) (length dfcm) (length words)
 
   abbrev pub FetchesOpened : Unpacked → List ℕ → List ℕ → List ℕ → Type 0
-  FetchesOpened r fcm' dfcm' words' = UnpacksWhere openedFetchNumber (fileIn f .t) openedBlock fcm dfcm words r fcm' dfcm' words'
+  FetchesOpened r fcm' dfcm' words' = UnpacksWhere openedFetchNumber (fileIn f .t) (openedBlock f slot) fcm dfcm words r fcm' dfcm' words'

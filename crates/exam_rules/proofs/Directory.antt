@@ -108,7 +108,7 @@ module _ {test : ℕ → ℕ → Bool} (forward : Forward test) where
   within lowest from (e ∷ es) to zero d z h = ends-before _ _ es to (heads test lowest from e es to z .rest)
   within lowest from (e ∷ es) to (suc i) d z h = within _ _ es to i d (heads test lowest from e es to z .rest) (omega arith)
 
--- ---- the test of today
+-- ---- the test of edition 1
 
 pub joins-equal : (end next : ℕ) → joins end next ≡ true → end ≡ next
 unfolding joins

@@ -1,5 +1,5 @@
 -- Entries and where they stand, and what a file that is open tells.
-use mathlib.Core.Path.{_≡_, refl, ap, _∙_}
+use mathlib.Core.Path.{_≡_, refl, sym, ap, _∙_}
 use mathlib.Core.List.{List, [], _∷_}
 use Prim.Native.Nat.{ℕ, zero, suc, _+_, _*_, _≤_, _<_}
 use native.Mathlib.Omega.{arith}
@@ -36,11 +36,24 @@ module _ (f : List ℕ) (tr : Trailer) (st : Standing f tr) where
   abbrev file : File
   file = fileIn f
 
+  -- the trailer tells its parts
+  pub tells-edition : file .edition ≡ tr .edition
+  tells-edition = sym (ap (λ (x : Trailer). x .edition) (st .trailer))
+
+  pub tells-t : file .t ≡ tr .t
+  tells-t = sym (ap (λ (x : Trailer). x .t) (st .trailer))
+
+  pub tells-entries : length (file .entries) ≡ tr .entries
+  tells-entries = sym (ap (λ (x : Trailer). x .entries) (st .trailer))
+
+  pub tells-start : length (file .body) ≡ tr .start
+  tells-start = sym (ap (λ (x : Trailer). x .start) (st .trailer))
+
   pub start-is : tr .start ≡ directoryAt f
-  start-is = ap (λ (x : Trailer). x .start) (st .trailer) ∙ body-long f
+  start-is = sym tells-start ∙ body-long f
 
   pub many-is : tr .entries ≡ entriesIn f
-  many-is = ap (λ (x : Trailer). x .entries) (st .trailer) ∙ entries-many f
+  many-is = sym tells-entries ∙ entries-many f
 
   pub entries-are : entriesAt f (tr .start) (tr .entries) ≡ file .entries
   unfolding fileIn
@@ -51,7 +64,7 @@ module _ (f : List ℕ) (tr : Trailer) (st : Standing f tr) where
 
   pub t-small : tr .t ≤ 16
   unfolding fileIn
-  t-small = omega (arith, ap (λ (x : Trailer). x .t) (st .trailer), rules-are .t)
+  t-small = omega (arith, tells-t, rules-are .t)
 
   pub entries-stand : Entries f (tr .start) (tr .entries)
   entries-stand = record { room = omega (arith, trails-ends f rules-are, start-is, many-is); few = omega (arith, rules-are .few, many-is) }

@@ -1,9 +1,9 @@
 -- What a file that was opened holds of its buffer.
-use mathlib.Core.Path.{_≡_, ap, _∙_, sym}
+use mathlib.Core.Path.{_≡_, _∙_}
 use mathlib.Core.List.{List}
 use Prim.Native.Nat.{ℕ, _+_, _*_}
 use native.Mathlib.Omega.{arith}
-use lib.ListN.{length, take, drop}
+use lib.ListN.{take, drop}
 use lib.Seq.{take-take}
 use Rattle.words.specs.Bytes.{Bytes}
 use Rattle.exam_rules.specs.File.{directoryBytes}
@@ -29,18 +29,6 @@ module _ (b : List ℕ) (l exam : ℕ) (tr : Trailer) (o : opened b l exam ≡ D
   pub stands-body : fileIn (take l b) .body ≡ take (tr .start) b
   unfolding fileIn
   stands-body = rw (start-is (take l b) tr st) (take-take (directoryAt (take l b)) l b (omega (arith, in-buffer .long)))
-
-  pub stands-long : length (fileIn (take l b) .body) ≡ tr .start
-  stands-long = sym (ap (λ (x : Trailer). x .start) (st .trailer))
-
-  pub stands-many : length (fileIn (take l b) .entries) ≡ tr .entries
-  stands-many = sym (ap (λ (x : Trailer). x .entries) (st .trailer))
-
-  pub stands-edition : fileIn (take l b) .edition ≡ tr .edition
-  stands-edition = sym (ap (λ (x : Trailer). x .edition) (st .trailer))
-
-  pub stands-t : fileIn (take l b) .t ≡ tr .t
-  stands-t = sym (ap (λ (x : Trailer). x .t) (st .trailer))
 
   pub stands-exam : fileIn (take l b) .exam ≡ exam
   unfolding fileIn

@@ -1,8 +1,8 @@
 use Prim.Native.Nat.{_-_, _≤_}
 use lib.ListN.{length}
 use borrow.Author.Needs.{needs}
-use Rattle.worked.proofs.show.bytes.Statement.{statement}
-use Rattle.worked.proofs.show.bytes.Tie as tie
+use Rattle.worked.proofs.show_bytes.Statement.{statement}
+use Rattle.worked.proofs.show_bytes.Tie as tie
 
 abbrev Inv-loop : tie.InvT-loop
 Inv-loop bytes i₀ i = i ≤ length bytes
@@ -34,8 +34,8 @@ loop-again c = search needs
 returns : tie.Need-returns Inv-loop μ-loop
 returns c = search needs
 
-pub bytes-spec : {M : Type 1} → statement M
-bytes-spec =
+pub show-bytes-spec : {M : Type 1} → statement M
+show-bytes-spec =
     tie.close
     (tie.spec
     Inv-loop
