@@ -3,6 +3,7 @@ pub mod Codes
 pub mod Learn
 pub mod Lengths
 pub mod Accept
+pub mod Answered
 pub mod Get
 pub mod Round
 pub mod Cost

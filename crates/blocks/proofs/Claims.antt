@@ -1,7 +1,7 @@
 -- What is promised of pack, check and unpack, each promise with one line of plain words.
 use mathlib.Core.Path.{_≡_, sym, ap, _∙_}
 use mathlib.Core.Logic.{_↔_}
-use mathlib.Core.List.{List}
+use mathlib.Core.List.{List, [], _∷_, List·Mem, mem-cast}
 use Prim.Native.Nat.{ℕ, _+_, _%_, _^_, _≤_}
 use lib.ListN.{length, take}
 use Rattle.words.specs.Words.{Words}
@@ -17,6 +17,7 @@ use Rattle.block_rules.specs.declared.Checked.{Checked}
 use Rattle.block_rules.specs.declared.Unpacked.{Unpacked}
 use Rattle.block_rules.proofs.Tables.{sized-power, tables-sized, sized-tables}
 use Rattle.block_rules.proofs.Accept.{packable, packable-packs, whole, whole-checks, unpackable, unpackable-unpacks, packs-number, checks-number, unpacks-number, packs-all-of, unpacks-all-of, unpacked-of, check-done, filler-needs, filler-has}
+use Rattle.block_rules.proofs.Answered.{pack-one-of, block-one-of, unpack-one-of}
 use Rattle.block_rules.proofs.Round.{block-count, block-whole, block-words, written-block}
 use Rattle.block_rules.proofs.Claims.{block-within-bound, block-within-worst, block-within-closer-bound}
 
@@ -146,6 +147,20 @@ unpack-accepts {b} p = (
 -- The tables' number is 0 just for two tables of 2 ^ t words, with t from 0 to 16.
 pub tables-accepted : (fcm dfcm : List ℕ) → (tablesNumber (length fcm) (length dfcm) ≡ 0) ↔ Tables fcm dfcm
 tables-accepted fcm dfcm = ((λ e. tables-of fcm dfcm (tables-sized _ _ e)), (λ k. sym (sized-tables _ _ (of-tables fcm dfcm k))))
+
+-- ---- every number is one of the call's list
+
+-- Pack answers 0, 1, 2 or 3.
+pub pack-numbers : {words fcm dfcm out f' d' out' : List ℕ} {r : Packed} → Packs words fcm dfcm out r f' d' out' → List·Mem (r .number) (0 ∷ 1 ∷ 2 ∷ 3 ∷ [])
+pack-numbers p = mem-cast (packs-number p) (pack-one-of _ _ _ _)
+
+-- Check answers 0, 4, 2, 5 or 6.
+pub check-numbers : (b : List ℕ) → List·Mem (checked b .number) (0 ∷ 4 ∷ 2 ∷ 5 ∷ 6 ∷ [])
+check-numbers b = mem-cast (checks-number b) (block-one-of b)
+
+-- Unpack answers 0, 1, one of check's numbers, or 3.
+pub unpack-numbers : {b fcm dfcm words f' d' w' : List ℕ} {r : Unpacked} → Unpacks b fcm dfcm words r f' d' w' → List·Mem (r .number) (0 ∷ 1 ∷ 4 ∷ 2 ∷ 5 ∷ 6 ∷ 3 ∷ [])
+unpack-numbers p = mem-cast (unpacks-number p) (unpack-one-of _ _ _ _)
 
 -- ---- what the tables held before plays no part
 

@@ -1,16 +1,105 @@
 -- What is promised of the calls from C, each promise with one line of plain words. They are the store's own promises, read through the lent numbers.
-use mathlib.Core.Path.{_≡_, sym, ap, _∙_}
-use mathlib.Core.List.{List}
-use Prim.Native.Nat.{ℕ, _+_, _≤_, _<_}
-use lib.ListN.{length, take}
+use mathlib.Core.Path.{_≡_, refl, sym, ap, _∙_}
+use mathlib.Core.List.{List, [], _∷_, _++_, List·Mem, mem-cast}
+use Prim.Native.Nat.{ℕ, _+_, _^_, _≤_, _<_}
+use lib.ListN.{length, take, drop}
+use Rattle.words.specs.Words.{Words}
+use Rattle.answers.specs.Answers.{over}
+use Rattle.answers.proofs.Checks.{afterwards-new}
 use Rattle.block_rules.specs.declared.Packed.{Packed}
 use Rattle.block_rules.specs.declared.Unpacked.{Unpacked}
-use Rattle.blocks.proofs.Claims.{pack-one-answer, unpack-one-answer, pack-forgets, unpack-forgets, refused-pack-changes-nothing, refused-unpack-changes-nothing}
-use Rattle.exam_rules.specs.Reading.{examIn}
+use Rattle.block_rules.proofs.Accept.{checks-number}
+use Rattle.blocks.proofs.Claims.{round-trip, pack-numbers, check-numbers, unpack-numbers, pack-one-answer, unpack-one-answer, pack-forgets, unpack-forgets, refused-pack-changes-nothing, refused-unpack-changes-nothing}
+use Rattle.exam_rules.specs.Reading.{examIn, fileIn, entryOf}
+use Rattle.exam_rules.specs.Calls.{located}
+use Rattle.exam_rules.specs.Maps.{Map}
 use Rattle.exam_rules.specs.declared.Located.{Located}
 use Rattle.exam_rules.specs.declared.Made.{Made}
-use Rattle.exams.proofs.Claims.{create-one-answer, fetch-one-answer, append-one-answer, fetch-forgets, append-forgets, refused-create-changes-nothing, refused-locate-tells-nothing, refused-fetch-changes-nothing, refused-append-changes-nothing, own-exam, located-has, fetch-accepts, append-accepts}
+use Rattle.exam_rules.proofs.Kept.{found-part}
+use Rattle.exams.proofs.Claims.{MadeOf, created, grown, made-opens, made-fetches, cut-is-never-whole, create-numbers, open-numbers, locate-numbers, fetch-numbers, append-numbers, create-one-answer, fetch-one-answer, append-one-answer, fetch-forgets, append-forgets, refused-create-changes-nothing, refused-locate-tells-nothing, refused-fetch-changes-nothing, refused-append-changes-nothing, own-exam, located-has, fetch-accepts, append-accepts}
 use Rattle.coil.specs.Calls.{CoilOpens, CoilChecks, CoilPacks, CoilUnpacks, CoilCreates, CoilFinds, CoilFetches, CoilAppends}
+
+-- ---- there and back
+
+-- Unpacking what coil_pack wrote, with tables of the same size whatever they hold, gives each word back bit for bit.
+pub coil-round-trip : {words fcm dfcm out f' d' out' f₂ d₂ room f₂' d₂' room' : List ℕ} {r l s n : ℕ}
+    → Words words → CoilPacks words fcm dfcm out r f' d' out' l → r ≡ 0
+    → CoilUnpacks (take l out') f₂ d₂ room s f₂' d₂' room' n → length f₂ ≡ length fcm → length d₂ ≡ length dfcm → length words ≤ length room
+    → (s ≡ 0) × (n ≡ length words) × (room' ≡ over words room)
+coil-round-trip h p e q lf ld enough =
+    let a = round-trip h p e q lf ld enough in
+    (ap (λ (x : Unpacked). x .number) (a .0), ap (λ (x : Unpacked). x .count) (a .0), a .1)
+
+-- A file that coil_create made is one made by create and appends, with no map yet. (`copied` of MadeOf: so is every copy of such a file.)
+pub coil-create-makes : {b b' : List ℕ} {exam t r l : ℕ} → exam < 2 ^ 64 → CoilCreates b exam t r b' l → r ≡ 0 → MadeOf exam t [] b' l
+coil-create-makes w c e = created w c e
+
+-- With coil_append it has one map more.
+pub coil-append-makes : {exam t : ℕ} {ms : List Map} {b : List ℕ} {l slot : ℕ} {words fcm dfcm bench b' f' d' n' : List ℕ} {r m : ℕ}
+    → MadeOf exam t ms b l → slot < 2 ^ 32 → Words words → CoilAppends b l exam slot words fcm dfcm bench r b' f' d' n' m → r ≡ 0
+    → MadeOf exam t (ms ++ (record { slot = slot; words = words } ∷ [])) b' m
+coil-append-makes k s w c e = grown k s w c e
+
+-- coil_open opens such a file for its exam number.
+pub coil-made-opens : {exam t : ℕ} {ms : List Map} {b : List ℕ} {l r : ℕ} → MadeOf exam t ms b l → CoilOpens b l exam r → r ≡ 0
+coil-made-opens k c = c ∙ made-opens k
+
+-- coil_fetch gives back exactly the words that were appended: with tables of 2 ^ t words, whatever they hold, and whatever else the file holds.
+pub coil-made-fetches : (first : List Map) (m : Map) (rest : List Map) {exam t : ℕ} {b : List ℕ} {l : ℕ} {fcm dfcm room f' d' room' : List ℕ} {r n : ℕ}
+    → MadeOf exam t (first ++ m ∷ rest) b l → CoilFetches b l exam (m .slot) fcm dfcm room r f' d' room' n
+    → length fcm ≡ 2 ^ t → length dfcm ≡ 2 ^ t → length (m .words) ≤ length room
+    → (r ≡ 0) × (n ≡ length (m .words)) × (room' ≡ over (m .words) room)
+coil-made-fetches first m rest k c lf ld enough =
+    let a = made-fetches first m rest k c lf ld enough in
+    (ap (λ (x : Unpacked). x .number) (a .0), ap (λ (x : Unpacked). x .count) (a .0), a .1)
+
+-- Cut such a file anywhere, and let a buffer begin with what is left. coil_open may take it. But never do all blocks that coil_find then finds pass
+-- coil_check, and coil_fetch unpacks no others.
+pub coil-cut-is-never-whole : {exam t : ℕ} {ms : List Map} {b : List ℕ} {l : ℕ} → MadeOf exam t ms b l → (k : ℕ) → k < l → (c : List ℕ) → take k c ≡ take k b
+    → (asked : ℕ) → CoilOpens c k asked 0 → ((slot offset size : ℕ) → CoilFinds c k asked slot 0 offset size → CoilChecks (take size (drop offset c)) 0) → ⊥
+unfolding located
+coil-cut-is-never-whole k cut short c same asked o w =
+    cut-is-never-whole k cut short c same asked (sym o)
+    (λ slot z.
+    let x = entryOf slot (fileIn (take cut c)) in
+    let found : CoilFinds c cut asked slot 0 (x .offset) (x .size) = rw (afterwards-new _ (x .offset) 0 z, afterwards-new _ (x .size) 0 z, z) refl in
+    rw (found-part c cut asked slot z) (sym (checks-number _) ∙ sym (w slot (x .offset) (x .size) found)))
+
+-- ---- every number is one of the call's list
+
+-- coil_pack answers 0, 1, 2 or 3.
+pub coil-pack-numbers : {words fcm dfcm out f' d' out' : List ℕ} {r l : ℕ} → CoilPacks words fcm dfcm out r f' d' out' l → List·Mem r (0 ∷ 1 ∷ 2 ∷ 3 ∷ [])
+coil-pack-numbers c = pack-numbers c
+
+-- coil_check answers 0, 4, 2, 5 or 6.
+pub coil-check-numbers : (b : List ℕ) {r : ℕ} → CoilChecks b r → List·Mem r (0 ∷ 4 ∷ 2 ∷ 5 ∷ 6 ∷ [])
+coil-check-numbers b c = mem-cast c (check-numbers b)
+
+-- coil_unpack answers 0, 1, one of coil_check's numbers, or 3.
+pub coil-unpack-numbers : {b fcm dfcm words f' d' w' : List ℕ} {r n : ℕ} → CoilUnpacks b fcm dfcm words r f' d' w' n → List·Mem r (0 ∷ 1 ∷ 4 ∷ 2 ∷ 5 ∷ 6 ∷ 3 ∷ [])
+coil-unpack-numbers c = unpack-numbers c
+
+-- coil_create answers 0, 8, 7 or 3.
+pub coil-create-numbers : {b b' : List ℕ} {exam t r l : ℕ} → CoilCreates b exam t r b' l → List·Mem r (0 ∷ 8 ∷ 7 ∷ 3 ∷ [])
+coil-create-numbers c = create-numbers c
+
+-- coil_open answers 0, 4, 7, 8 or 9.
+pub coil-open-numbers : (b : List ℕ) (l exam : ℕ) {r : ℕ} → CoilOpens b l exam r → List·Mem r (0 ∷ 4 ∷ 7 ∷ 8 ∷ 9 ∷ [])
+coil-open-numbers b l exam c = mem-cast c (open-numbers b l exam)
+
+-- coil_find answers 0, one of coil_open's numbers, or 10.
+pub coil-find-numbers : (b : List ℕ) (l exam slot : ℕ) {r offset size : ℕ} → CoilFinds b l exam slot r offset size → List·Mem r (0 ∷ 4 ∷ 7 ∷ 8 ∷ 9 ∷ 10 ∷ [])
+coil-find-numbers b l exam slot c = mem-cast (ap (λ (x : Located). x .number) c) (locate-numbers b l exam slot)
+
+-- coil_fetch answers 0, one of coil_find's numbers, 1, one of coil_check's, or 3.
+pub coil-fetch-numbers : {b : List ℕ} {l exam slot : ℕ} {fcm dfcm words f' d' w' : List ℕ} {r n : ℕ} → CoilFetches b l exam slot fcm dfcm words r f' d' w' n
+    → List·Mem r (0 ∷ 4 ∷ 7 ∷ 8 ∷ 9 ∷ 10 ∷ 1 ∷ 2 ∷ 5 ∷ 6 ∷ 3 ∷ [])
+coil-fetch-numbers c = fetch-numbers c
+
+-- coil_append answers 0, one of coil_open's numbers, 12, 11, 1, 2 or 3.
+pub coil-append-numbers : {b : List ℕ} {l exam slot : ℕ} {words fcm dfcm bench b' f' d' n' : List ℕ} {r m : ℕ} → CoilAppends b l exam slot words fcm dfcm bench r b' f' d' n' m
+    → List·Mem r (0 ∷ 4 ∷ 7 ∷ 8 ∷ 9 ∷ 12 ∷ 11 ∷ 1 ∷ 2 ∷ 3 ∷ [])
+coil-append-numbers c = append-numbers c
 
 -- ---- no second answer
 

@@ -15,12 +15,13 @@ use Rattle.block_rules.specs.Block.{count, statedLength}
 use Rattle.block_rules.specs.Numbers.{blockNumber}
 use Rattle.block_rules.proofs.Accept.{whole, stated-first}
 use Rattle.exam_rules.specs.File.{Entry, entry, entryBytes, directoryBytes, mark, trailerBytes, fileLength, fileBytes, blockOf}
-use Rattle.exam_rules.specs.Reading.{markIn, directoryAt, entriesIn, entryAt, entriesAt, fileIn}
-use Rattle.exam_rules.specs.Numbers.{joins, entriesNumber, openInNumber}
+use Rattle.exam_rules.specs.Reading.{markIn, directoryAt, entriesIn, entryAt, entriesAt, fileIn, entryOf}
+use Rattle.exam_rules.specs.Numbers.{joins, entriesNumber, openInNumber, findNumber, blockIn}
 use Rattle.exam_rules.specs.Pieces.{Piece, blocksOf, entriesOf, fileOfPieces}
-use Rattle.exam_rules.proofs.Directory.{heads, joins-equal, joins-forward, ends-before, length-entries}
-use Rattle.exam_rules.proofs.Opens.{OpensIn, opens-in, trails-ends, directory-is}
+use Rattle.exam_rules.proofs.Directory.{heads, joins-equal, joins-forward, ends-before, length-entries, index-of-entry}
+use Rattle.exam_rules.proofs.Opens.{OpensIn, opens-in, opens-in-keep, trails-ends, directory-is}
 use Rattle.exam_rules.proofs.Parts.{part-of-first}
+use Rattle.exam_rules.proofs.Accept.{find-passes}
 use Rattle.exam_rules.proofs.Holds.{Holds, holds-length}
 use Rattle.exam_rules.proofs.Pieces.{Wholes, length-pieces}
 
@@ -138,9 +139,35 @@ module _ (exam t : ℕ) (ps : List Piece) {b : List ℕ} {l : ℕ} (h : Holds b 
       ∙ block-states (p .block) (blocksOf left ++ tail) v in
       omega (arith, whole (p .block) v .long)
 
-  pub never : ((i : ℕ) → i < length (fileIn part .entries) → blockNumber (blockOf (fileIn part) (getD (fileIn part .entries) i (entry 0 0 0))) ≡ 0) → ⊥
+  never : ((i : ℕ) → i < length (fileIn part .entries) → blockNumber (blockOf (fileIn part) (getD (fileIn part .entries) i (entry 0 0 0))) ≡ 0) → ⊥
   unfolding fileIn blockOf
   never w =
       let x : 32 < fileLength (fileOfPieces exam t ps) = omega (arith, o .is .trailer .long, o .long, holds-length h) in
       let r = walk b tail k s (o .within) (omega (arith, ends)) (tail-states exam t ps _ x) (entriesAt part s (entriesIn part)) ps 0 0 ws keeps w starts in
       finish (entriesIn part) refl (r .pieces) (r .wholes) (r .there) (omega (arith, r .many, length-entries part (entriesIn part) s))
+
+-- ---- the same of a copy, slot by slot
+
+-- within a list, the element at a place needs no other to fall back on
+no-default : (es : List Entry) (i : ℕ) (d e : Entry) → i < length es → getD es i d ≡ getD es i e
+no-default [] i d e h = absurd (omega arith)
+no-default (x ∷ es) zero d e h = refl
+no-default (x ∷ es) (suc i) d e h = no-default es i d e (omega arith)
+
+module _ (exam t : ℕ) (ps : List Piece) {b : List ℕ} {l : ℕ} (h : Holds b l (fileOfPieces exam t ps)) (ws : Wholes ps) (k asked : ℕ) (short : k < l) (c : List ℕ)
+    (same : take k c ≡ take k b) (z : openInNumber c k asked ≡ 0) where
+  -- so the part opens in the buffer that holds the file, too
+  opens-there : openInNumber b k asked ≡ 0
+  opens-there = opens-in-keep b k asked (omega (arith, h .within)) (rw (← same) (opens-in c k asked z .is))
+
+  pub never-all-whole : ((s : ℕ) → findNumber c k asked s ≡ 0 → blockNumber (blockIn c k s) ≡ 0) → ⊥
+  unfolding blockIn entryOf
+  never-all-whole w =
+      never exam t ps h ws k asked short opens-there
+      (rw (← same)
+      (λ i below.
+      let f = fileIn (take k c) in
+      let e = getD (f .entries) i (entry 0 0 0) in
+      let index = index-of-entry f i (entry 0 0 0) (opens-in c k asked z .is .directory) below in
+      let its = no-default (f .entries) i (entry (e .slot) 0 0) (entry 0 0 0) below in
+      rw (index, its) at (w (e .slot) (find-passes c k asked (e .slot) z (rw index below)))))

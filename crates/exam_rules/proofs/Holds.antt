@@ -3,7 +3,7 @@ use mathlib.Core.Path.{_≡_, sym, ap, _∙_}
 use mathlib.Core.List.{List, [], _∷_, _++_}
 use Prim.Native.Nat.{ℕ, _+_, _^_, _≤_, _<_}
 use native.Mathlib.Omega.{arith}
-use lib.ListN.{length, take, drop, length-append}
+use lib.ListN.{length, take, drop, length-append, length-take}
 use lib.Seq.{take-at, length-take-le}
 use Rattle.words.proofs.Each.{none, each-more}
 use Rattle.answers.specs.Answers.{over}
@@ -61,6 +61,11 @@ holds-parts {f = f} h = rw (h .bytes) (parts-back f (h .good))
 
 pub holds-opens : {b : List ℕ} {l : ℕ} {f : File} → Holds b l f → openInNumber b l (f .exam) ≡ 0
 holds-opens {b} {l} {f} h = opens-in-back f (h .good) b l (h .within) (h .bytes)
+
+-- so does every buffer that begins with the same bytes
+pub copied-holds : {b c : List ℕ} {l : ℕ} {f : File} → Holds b l f → take l c ≡ take l b → Holds c l f
+copied-holds {b} {c} {l} h e =
+    record { within = omega (arith, ap length e, length-take-le l b (h .within), length-take l c); bytes = e ∙ h .bytes; good = h .good }
 
 -- a call that makes a file leaves a buffer that holds it
 pub changed-holds : {k : ℕ} {f : File} {b b' : List ℕ} {r : Made} → Changes k f b r b' → r .number ≡ 0 → Good f → Holds b' (r .length) f

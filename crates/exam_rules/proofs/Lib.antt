@@ -6,6 +6,7 @@ pub mod Changes
 pub mod Entries
 pub mod Stands
 pub mod Accept
+pub mod Answered
 pub mod Back
 pub mod Holds
 pub mod Pieces

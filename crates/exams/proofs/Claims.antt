@@ -1,10 +1,10 @@
 -- What is promised of create, open, find, locate, fetch and append, each promise with one line of plain words.
 use mathlib.Core.Path.{_≡_, refl, sym, ap, _∙_}
 use mathlib.Core.Logic.{_↔_}
-use mathlib.Core.List.{List, [], _∷_, _++_, map, map-append}
+use mathlib.Core.List.{List, [], _∷_, _++_, map, map-append, List·Mem, mem-cast}
 use Prim.Native.Nat.{ℕ, _+_, _^_, _≤_, _<_}
 use native.Mathlib.Omega.{arith}
-use lib.ListN.{length, getD, take, drop}
+use lib.ListN.{length, take, drop}
 use Rattle.words.specs.Words.{Words}
 use Rattle.words.specs.Bytes.{Bytes}
 use Rattle.words.proofs.Each.{Each, none, each-more, each-at}
@@ -14,7 +14,7 @@ use Rattle.block_rules.specs.Block.{block}
 use Rattle.block_rules.specs.Calls.{unpacked}
 use Rattle.block_rules.specs.Numbers.{blockNumber}
 use Rattle.block_rules.specs.declared.Unpacked.{Unpacked}
-use Rattle.exam_rules.specs.File.{entry, fileLength, fileBytes, blockOf, appended}
+use Rattle.exam_rules.specs.File.{fileLength, fileBytes, appended}
 use Rattle.exam_rules.specs.Reading.{tIn, examIn, distanceIn, entriesIn, lengthIn, fileIn, entryOf}
 use Rattle.exam_rules.specs.Numbers.{openInNumber, findNumber, blockIn}
 use Rattle.exam_rules.specs.Calls.{opened, openedNumber, openedT, openedEntries, openedStart, Finds, located, fetchesNumber, Fetches, Creates, appendsNumber, Appends}
@@ -26,10 +26,11 @@ use Rattle.exam_rules.specs.declared.Opened.the-variants.{Done, Refused}
 use Rattle.exam_rules.proofs.Opens.{opens-in, t-in, body-long, entries-many}
 use Rattle.exam_rules.proofs.Changes.{change-one-answer, changes-number, changes-none}
 use Rattle.exam_rules.proofs.Accept.{OpenTakes, open-takes, takes-open, FindTakes, find-takes, takes-find, FetchTakes, fetch-takes, takes-fetch, takes-create, AppendTakes, append-takes, takes-append, opened-number, opened-done, fetches-number, CreateTakes, create-takes}
-use Rattle.exam_rules.proofs.Holds.{Holds, holds-length, holds-parts, holds-opens}
+use Rattle.exam_rules.proofs.Answered.{open-in-one-of, find-one-of, fetch-one-of, create-one-of, append-one-of}
+use Rattle.exam_rules.proofs.Holds.{Holds, holds-length, holds-parts, holds-opens, copied-holds}
 use Rattle.exam_rules.proofs.Pieces.{created-pieces, appended-pieces, piece-found, piece-block, piece-fetched}
 use Rattle.exam_rules.proofs.Maps.{Fit, map-reads, maps-whole, maps-piece}
-use Rattle.exam_rules.proofs.Cut.{never}
+use Rattle.exam_rules.proofs.Cut.{never-all-whole}
 use Rattle.exam_rules.proofs.Kept.{found-long, found-size, found-within, found-part, more-holds, more-opens, slot-kept}
 
 -- ---- no second answer
@@ -107,6 +108,35 @@ append-accepts {words} {fcm} {dfcm} {bench} c = (
   (λ k. changes-number (c .file) ∙ takes-append _ _ _ _ words fcm dfcm bench k),
 )
 
+-- ---- every number is one of the call's list
+
+-- Create answers 0, 8, 7 or 3.
+pub create-numbers : {b b' : List ℕ} {exam t : ℕ} {r : Made} → Creates b exam t r b' → List·Mem (r .number) (0 ∷ 8 ∷ 7 ∷ 3 ∷ [])
+create-numbers c = mem-cast (changes-number c) (create-one-of _ _ _)
+
+-- Open answers 0, 4, 7, 8 or 9.
+pub open-numbers : (b : List ℕ) (l exam : ℕ) → List·Mem (openedNumber (opened b l exam)) (0 ∷ 4 ∷ 7 ∷ 8 ∷ 9 ∷ [])
+open-numbers b l exam = mem-cast (opened-number b l exam) (open-in-one-of b l exam)
+
+-- Find answers 0, one of open's numbers, or 10.
+pub find-numbers : {b : List ℕ} {l exam slot n : ℕ} {p : List ℕ} → Finds b l exam slot p n → List·Mem n (0 ∷ 4 ∷ 7 ∷ 8 ∷ 9 ∷ 10 ∷ [])
+find-numbers c = mem-cast (c .numberLeft) (find-one-of _ _ _ _)
+
+-- So does locate.
+pub locate-numbers : (b : List ℕ) (l exam slot : ℕ) → List·Mem (located b l exam slot .number) (0 ∷ 4 ∷ 7 ∷ 8 ∷ 9 ∷ 10 ∷ [])
+unfolding located
+locate-numbers b l exam slot = find-one-of b l exam slot
+
+-- Fetch answers 0, one of find's numbers, 1, one of check's, or 3.
+pub fetch-numbers : {b : List ℕ} {l exam slot : ℕ} {fcm dfcm words f' d' w' : List ℕ} {r : Unpacked} → Fetches b l exam slot fcm dfcm words r f' d' w'
+    → List·Mem (r .number) (0 ∷ 4 ∷ 7 ∷ 8 ∷ 9 ∷ 10 ∷ 1 ∷ 2 ∷ 5 ∷ 6 ∷ 3 ∷ [])
+fetch-numbers c = mem-cast (fetches-number c) (fetch-one-of _ _ _ _ _ _ _)
+
+-- Append answers 0, one of open's numbers, 12, 11, 1, 2 or 3.
+pub append-numbers : {b : List ℕ} {l exam slot : ℕ} {words fcm dfcm bench b' f' d' n' : List ℕ} {r : Made} → Appends b l exam slot words fcm dfcm bench r b' f' d' n'
+    → List·Mem (r .number) (0 ∷ 4 ∷ 7 ∷ 8 ∷ 9 ∷ 12 ∷ 11 ∷ 1 ∷ 2 ∷ 3 ∷ [])
+append-numbers {b} {l} {exam} {slot} {words} {fcm} {dfcm} {bench} c = mem-cast (changes-number (c .file)) (append-one-of b l exam slot words fcm dfcm bench)
+
 -- ---- a file opens only for its own exam number
 
 -- Where open answers 0, the trailer's exam number is the one asked for, and not 0. (Find, fetch and append open first.)
@@ -148,16 +178,19 @@ append-forgets p q e g z =
 
 -- ---- files made by create and appends
 
--- the buffer b, as far as l, was made by create for an exam and a t, and then by an append for each of the maps, none of them refused
+-- The first l bytes of the buffer b are a file that create made for an exam and a t, and then an append for each of the maps, none of them refused. Between
+-- two calls it may have been copied: to disk and back, say, into any buffer that begins with the same l bytes.
 pub data MadeOf (exam t : ℕ) : List Map → List ℕ → ℕ → Type 0 where
   created : {b b' : List ℕ} {r : Made} → exam < 2 ^ 64 → Creates b exam t r b' → r .number ≡ 0 → MadeOf exam t [] b' (r .length)
   grown : {ms : List Map} {b : List ℕ} {l slot : ℕ} {words fcm dfcm bench b' fcm' dfcm' bench' : List ℕ} {r : Made}
       → MadeOf exam t ms b l → slot < 2 ^ 32 → Words words → Appends b l exam slot words fcm dfcm bench r b' fcm' dfcm' bench' → r .number ≡ 0
       → MadeOf exam t (ms ++ (record { slot = slot; words = words } ∷ [])) b' (r .length)
+  copied : {ms : List Map} {b c : List ℕ} {l : ℕ} → MadeOf exam t ms b l → take l c ≡ take l b → MadeOf exam t ms c l
 
 made-holds : {exam t : ℕ} {ms : List Map} {b : List ℕ} {l : ℕ} → MadeOf exam t ms b l → Holds b l (fileOf exam t ms)
 made-holds (created w c e) = created-pieces w c e
 made-holds {exam} {t} (grown {ms = ms} h s w c e) = rw map-append (appended-pieces exam t (map (pieceOf t) ms) (made-holds h) s c e)
+made-holds (copied h e) = copied-holds (made-holds h) e
 
 -- Such a file is the bytes of its parts: the blocks of the maps in order, an entry for each, the trailer.
 pub made-is-its-parts : {exam t : ℕ} {ms : List Map} {b : List ℕ} {l : ℕ} → MadeOf exam t ms b l → (take l b ≡ fileBytes (fileOf exam t ms)) × (l ≡ fileLength (fileOf exam t ms))
@@ -170,6 +203,7 @@ made-opens {exam} {b = b} {l} m = opened-number b l exam ∙ holds-opens (made-h
 made-fit : {exam t : ℕ} {ms : List Map} {b : List ℕ} {l : ℕ} → MadeOf exam t ms b l → Each Fit ms
 made-fit (created w c e) = none
 made-fit (grown h s w c e) = each-more (made-fit h) (record { few = append-accepts c .0 e .fewWords; wide = w })
+made-fit (copied h e) = made-fit h
 
 -- Finding a slot of such a file hands back the block of the words that were appended there.
 pub made-finds : (first : List Map) (m : Map) (rest : List Map) {exam t : ℕ} {b : List ℕ} {l : ℕ} {part : List ℕ} {number : ℕ}
@@ -285,9 +319,9 @@ pub fetched-is-whole : {b : List ℕ} {l exam slot : ℕ} {fcm dfcm words f' d' 
     → blockNumber (blockIn b l slot) ≡ 0
 fetched-is-whole c e = fetch-accepts c .0 e .whole
 
--- A proper first part of a file made by create and appends may open, for whatever number is asked, only with a directory of which some block is not whole:
--- never do all its slots unpack.
-pub cut-is-never-whole : {exam t : ℕ} {ms : List Map} {b : List ℕ} {l : ℕ} → MadeOf exam t ms b l → (k asked : ℕ) → k < l → openedNumber (opened b k asked) ≡ 0
-    → ((i : ℕ) → i < length (fileIn (take k b) .entries) → blockNumber (blockOf (fileIn (take k b)) (getD (fileIn (take k b) .entries) i (entry 0 0 0))) ≡ 0) → ⊥
-cut-is-never-whole {exam} {t} {ms} {b} m k asked short e w =
-    never exam t (map (pieceOf t) ms) (made-holds m) (maps-whole t (made-fit m)) k asked short (sym (opened-number b k asked) ∙ e) w
+-- Cut a file made by create and appends anywhere, and let a buffer begin with what is left. It may open, for whatever number is asked. But never are the blocks
+-- of all slots that it then has whole, and fetch unpacks no others.
+pub cut-is-never-whole : {exam t : ℕ} {ms : List Map} {b : List ℕ} {l : ℕ} → MadeOf exam t ms b l → (k : ℕ) → k < l → (c : List ℕ) → take k c ≡ take k b
+    → (asked : ℕ) → openedNumber (opened c k asked) ≡ 0 → ((slot : ℕ) → findNumber c k asked slot ≡ 0 → blockNumber (blockIn c k slot) ≡ 0) → ⊥
+cut-is-never-whole {exam} {t} {ms} m k short c same asked e w =
+    never-all-whole exam t (map (pieceOf t) ms) (made-holds m) (maps-whole t (made-fit m)) k asked short c same (sym (opened-number c k asked) ∙ e) w

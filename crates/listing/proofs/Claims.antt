@@ -1,7 +1,7 @@
 -- What is promised of listing, each promise with one line of plain words.
 use mathlib.Core.Path.{_≡_, refl, sym, ap, _∙_}
 use mathlib.Core.Logic.{_↔_}
-use mathlib.Core.List.{List, [], _∷_}
+use mathlib.Core.List.{List, [], _∷_, List·Mem, mem-cons-self, mem-cast}
 use Prim.Native.Nat.{ℕ, _+_, _*_, _^_, _≤_, _<_}
 use lib.ListN.{length, getD, take}
 use lib.Seq.{take-at}
@@ -10,18 +10,21 @@ use Rattle.words.specs.Words.{add64, sub64, shiftedLeft, shiftedRight, lowBits,
 use Rattle.words.specs.Bytes.{Bytes}
 use Rattle.answers.specs.Answers.{unless, firstFailure}
 use Rattle.answers.proofs.Checks.{afterwards-new, afterwards-old, told-within}
+use Rattle.answers.proofs.Numbers.{one-of-more, none-named, verdict-named, check-named}
 use Rattle.block_rules.specs.Predictors.{cleared, fcmPrediction, dfcmPrediction, difference, nextFcmHash, nextDfcmHash, learn}
 use Rattle.block_rules.specs.Codes.{fcmResidual, dfcmResidual, dfcmChosen, lowThree, written, codedBy, chosen, codedWord, residualBytes}
 use Rattle.block_rules.specs.Block.{arranged, block, body, countedCodes, lastHalf}
 use Rattle.block_rules.specs.Calls.{checked}
 use Rattle.block_rules.specs.Numbers.{fillerStands, blockNumber}
 use Rattle.block_rules.proofs.Accept.{checks-number}
-use Rattle.exam_rules.specs.File.{entry, entryBytes, trailerBytes, fileBytes, blockOf, empty, appended}
+use Rattle.block_rules.proofs.Answered.{block-one-of}
+use Rattle.exam_rules.specs.File.{Entry, entry, File, entryBytes, trailerBytes, fileBytes, blockOf, empty, appended}
 use Rattle.exam_rules.specs.Reading.{examIn, entryAt, fileIn}
 use Rattle.exam_rules.specs.Numbers.{editionKnown, joins, directoryNumber, fieldsNumber, trailerNumber, openNumber}
 use Rattle.exam_rules.specs.Calls.{opened, openedNumber}
+use Rattle.exam_rules.proofs.Answered.{open-one-of}
 use Rattle.listing.specs.Text.{ascii, decimal, examLine, slotLine, listing, mostText}
-use Rattle.listing.specs.Numbers.{listNumber}
+use Rattle.listing.specs.Numbers.{blocksNumber, listNumber}
 use Rattle.listing.specs.Calls.{listed, listsNumber, Lists}
 use Rattle.listing.specs.declared.Listed.{Listed}
 use Rattle.listing.proofs.Decimals.{readOn, decimal-read, Digits, decimal-digits, decimal-first}
@@ -59,6 +62,24 @@ worked-number = (refl, refl)
 -- Of list's answer and of the text, refused or not, the promise admits one value each.
 pub list-one-answer : {f text t₁ t₂ : List ℕ} {r₁ r₂ : Listed} → Lists f text r₁ t₁ → Lists f text r₂ t₂ → (r₁ ≡ r₂) × (t₁ ≡ t₂)
 list-one-answer p q = (p .answer ∙ sym (q .answer), p .textLeft ∙ sym (q .textLeft))
+
+-- ---- every number is one of list's
+
+blocks-one-of : (f : File) (es : List Entry) → List·Mem (blocksNumber f es) (0 ∷ 4 ∷ 2 ∷ 5 ∷ 6 ∷ [])
+blocks-one-of f [] = mem-cons-self
+blocks-one-of f (e ∷ es) = verdict-named _ _ (block-one-of (blockOf f e)) (verdict-named _ _ (blocks-one-of f es) (none-named _))
+
+list-one-of : (f : List ℕ) (room : ℕ) → List·Mem (listNumber f room) (0 ∷ 3 ∷ 4 ∷ 7 ∷ 8 ∷ 9 ∷ 2 ∷ 5 ∷ 6 ∷ [])
+unfolding listNumber
+list-one-of f room =
+    check-named _ 3 _
+    (verdict-named _ _ (one-of-more _ _ (open-one-of f (examIn f)) refl)
+    (verdict-named _ _ (one-of-more _ _ (blocks-one-of (fileIn f) (fileIn f .entries)) refl) (check-named _ 3 _ (none-named _) refl)))
+    refl
+
+-- List answers 0, 3, one of open's numbers, or one of check's.
+pub list-numbers : {f text text' : List ℕ} {r : Listed} → Lists f text r text' → List·Mem (r .number) (0 ∷ 3 ∷ 4 ∷ 7 ∷ 8 ∷ 9 ∷ 2 ∷ 5 ∷ 6 ∷ [])
+list-numbers p = mem-cast (lists-number p) (list-one-of _ _)
 
 -- ---- a refusal leaves everything as it was
 

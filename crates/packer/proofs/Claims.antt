@@ -1,9 +1,10 @@
 -- What is promised of the packer's answer to its input, each promise with one line of plain words.
-use mathlib.Core.Path.{_≡_, sym, ap, _∙_}
-use mathlib.Core.List.{List}
+use mathlib.Core.Path.{_≡_, refl, sym, ap, _∙_}
+use mathlib.Core.List.{List, [], _∷_, List·Mem, mem-cast}
 use Prim.Native.Nat.{ℕ}
 use lib.ListN.{length}
 use Rattle.answers.proofs.Checks.{afterwards-old, afterwards-new}
+use Rattle.answers.proofs.Numbers.{none-named, check-named}
 use Rattle.block_rules.specs.Calls.{packed}
 use Rattle.block_rules.specs.declared.Packed.{Packed}
 use Rattle.packer.specs.Program.{packerNumber, Answers}
@@ -32,3 +33,12 @@ unfolding packed
 refused-packer-changes-nothing {input} a h =
     let k : packerNumber (length input) ≡ 0 → ⊥ = λ z. h (ap (λ (x : Packed). x .number) (a .answer) ∙ z) in
     (ap (λ (x : Packed). x .length) (a .answer) ∙ afterwards-old _ _ 0 k, a .fcmLeft ∙ afterwards-old _ _ _ k, a .dfcmLeft ∙ afterwards-old _ _ _ k, a .outLeft ∙ afterwards-old _ _ _ k)
+
+packer-one-of : (n : ℕ) → List·Mem (packerNumber n) (0 ∷ 2 ∷ 4 ∷ [])
+unfolding packerNumber
+packer-one-of n = check-named _ 2 _ (check-named _ 4 _ (none-named _) refl) refl
+
+-- The packer answers 0, 2 or 4.
+pub packer-numbers : {input fcm dfcm out f' d' out' : List ℕ} {r : Packed} → Answers input fcm dfcm out r f' d' out' → List·Mem (r .number) (0 ∷ 2 ∷ 4 ∷ [])
+unfolding packed
+packer-numbers a = mem-cast (ap (λ (x : Packed). x .number) (a .answer)) (packer-one-of _)
