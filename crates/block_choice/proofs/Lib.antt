@@ -1,2 +1,2 @@
-pub mod Lesser
 pub mod Learning
+pub mod Coding

@@ -65,11 +65,12 @@ fn stage_chosen(stage: &mut [u8], staged: usize, by_fcm: u64, by_dfcm: u64) -> S
     if by_dfcm == 0 {
         return Staging { code: 15, staged };
     }
-    let priced = block_choice::chosen(by_fcm, by_dfcm);
-    store_eight(stage, staged, priced.coded.residual);
+    let coded = block_choice::chosen(by_fcm, by_dfcm);
+    let code = coded.code;
+    store_eight(stage, staged, coded.residual);
     Staging {
-        code: priced.coded.code,
-        staged: staged + priced.bytes,
+        code,
+        staged: staged + block_choice::written(code),
     }
 }
 

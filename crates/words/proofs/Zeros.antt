@@ -1,13 +1,13 @@
 -- Leading zero bytes. No proof but the claims opens `zeroBytes` elsewhere.
-use mathlib.Core.Path.{_≡_, refl, sym, ap, _∙_}
+use mathlib.Core.Path.{_≡_, refl}
 use mathlib.Core.Bool.{cond}
 use Prim.Native.Nat.{ℕ, zero, suc, _+_, _-_, _*_, _/_, _^_, _≤_, _<_}
 use native.Mathlib.Omega.{arith}
-use native.Mathlib.Nat.{lt-of-not-le, not-le-of-lt, lt-of-le-of-lt, lt-of-lt-of-le, le-trans, pow-suc, pow-le-pow-right, mul-comm, le-div-iff-mul-le, div-lt-iff-lt-mul}
+use native.Mathlib.Nat.{lt-of-not-le, not-le-of-lt, lt-of-le-of-lt, lt-of-lt-of-le, le-trans, pow-suc, pow-le-pow-right}
 use lib.Pow.{pow-mono, pow-add}
 use lib.Count.{leadingZeros, leading-le, leading-top, leading-length, leading-of-zero}
-use lib.Dec.{ltb, leb}
-use borrow.Author.Tests.{ltb-true, ltb-false, leb-true, leb-false, lt-ltb, le-ltb}
+use lib.Dec.{ltb}
+use borrow.Author.Tests.{ltb-true, ltb-false}
 use Rattle.words.specs.Words.{zeroBytes}
 use Rattle.words.proofs.Tests.{either}
 
@@ -18,7 +18,7 @@ pow-256 (suc k) =
     let e : 8 * suc k ≡ 8 * k + 8 = omega arith in
     rw (e, pow-add, pow-suc 256 k, pow-256 k)
 
-pub pow-256-lt : (a b : ℕ) → 256 ^ a < 256 ^ b → a < b
+pow-256-lt : (a b : ℕ) → 256 ^ a < 256 ^ b → a < b
 pow-256-lt a b h = lt-of-not-le (λ l. not-le-of-lt h (pow-le-pow-right {n = 256} (omega arith) l))
 
 pub pow-256-le : {a b : ℕ} → a ≤ b → 256 ^ a ≤ 256 ^ b
@@ -53,20 +53,6 @@ zeros-of-fit r w l h =
     (λ p. let k : 7 - zeroBytes r < w = pow-256-lt _ w (lt-of-le-of-lt (zeros-reach r (ltb-true 0 r p) l) h) in omega arith)
     (λ p. omega (arith, zeros-of-zero r (omega (arith, ltb-false 0 r p))))
 
--- the word whose highest byte that isn't zero is byte k
-pub zeros-above : (k r : ℕ) → k ≤ 7 → 256 ^ k ≤ r → r < 256 ^ (k + 1) → 7 - k ≡ zeroBytes r
-zeros-above k r l h u =
-    let w : r < 2 ^ 64 = lt-of-lt-of-le u (pow-256-le {b = 8} (omega arith)) in
-    let a : 8 - (k + 1) ≤ zeroBytes r = zeros-of-fit r (k + 1) w u in
-    let b : k < 8 - zeroBytes r = pow-256-lt k _ (lt-of-le-of-lt h (zeros-within r w)) in
-    omega arith
-
--- the word whose highest byte that isn't zero is byte k or the next
-pub zeros-between : (k r : ℕ) → k ≤ 6 → 256 ^ k ≤ r → r < 256 ^ (k + 1 + 1) → 6 - k + cond (ltb r (256 ^ (k + 1))) 1 0 ≡ zeroBytes r
-zeros-between k r l h u =
-    either (ltb r (256 ^ (k + 1))) (λ e. rw e (omega (arith, zeros-above k r (omega arith) h (ltb-true r _ e))))
-    (λ e. rw e (omega (arith, zeros-above (k + 1) r (omega arith) (ltb-false r _ e) u)))
-
 -- how many of the rungs 256 ^ 0 to 256 ^ (k - 1) a word is under
 abbrev pub rungs : ℕ → ℕ → ℕ
 rungs r zero = 0
@@ -91,26 +77,3 @@ zeros-some r h p =
     (λ e.
     let z : 8 - zeroBytes r ≡ 0 = omega (arith, ltb-false (zeroBytes r) 8 e) in
     absurd (omega (arith, rw z at (zeros-within r h))))
-
--- of two words the greater has no more leading zero bytes
-pub zeros-fall : (a b : ℕ) → a ≤ b → b < 2 ^ 64 → zeroBytes b ≤ zeroBytes a
-zeros-fall a b l h = omega (arith, zeros-of-fit a (8 - zeroBytes b) (omega arith) (lt-of-le-of-lt l (zeros-within b h)), zeros-at-most b)
-
--- fewer than z leading zero bytes: the word reaches the rung above those that have z
-pub zeros-fewer : (r z : ℕ) → z ≤ 8 → r < 2 ^ 64 → leb (256 ^ (8 - z)) r ≡ ltb (zeroBytes r) z
-zeros-fewer r z l h =
-    either (leb (256 ^ (8 - z)) r)
-    (λ e. e ∙ sym (lt-ltb (zeroBytes r) z (omega (arith, pow-256-lt (8 - z) _ (lt-of-le-of-lt (leb-true _ r e) (zeros-within r h))))))
-    (λ e. e ∙ sym (le-ltb (zeroBytes r) z (omega (arith, zeros-of-fit r (8 - z) h (leb-false _ r e)))))
-
--- the same, seen by one shift
-pub zeros-shifted : (r z : ℕ) → z ≤ 7 → r < 2 ^ 64 → ltb 255 (r / 2 ^ (56 - 8 * z)) ≡ ltb (zeroBytes r) z
-zeros-shifted r z l h =
-    let s : 56 - 8 * z ≡ 8 * (7 - z) = omega arith in
-    let n : 8 - z ≡ suc (7 - z) = omega arith in
-    let p : 256 ^ (8 - z) ≡ 256 * 256 ^ (7 - z) = ap (λ (k : ℕ). 256 ^ k) n ∙ pow-suc 256 (7 - z) ∙ mul-comm _ _ in
-    let d : 0 < 256 ^ (7 - z) = pow-256-le {a = 0} {b = 7 - z} (omega arith) in
-    rw (s, ← (pow-256 (7 - z)))
-    (either (leb (256 ^ (8 - z)) r) (λ e. lt-ltb 255 (r / 256 ^ (7 - z)) (omega (arith, le-div-iff-mul-le {x = 256} {y = r} d .1 (rw p at (leb-true _ r e)))) ∙ sym e)
-    (λ e. le-ltb 255 (r / 256 ^ (7 - z)) (omega (arith, div-lt-iff-lt-mul {x = r} {y = 256} d .1 (rw p at (leb-false _ r e)))) ∙ sym e)
-    ∙ zeros-fewer r z (omega arith) h)

@@ -10,7 +10,7 @@ ghost use Rattle.words.specs.Words.{sub64, zeroBytes};
 ghost use Rattle.words.specs.Bytes.{lowBytes, field, sameBytes};
 
 // 1 where a word is under a rung, and 0 where it is not.
-pub fn under(r: u64, rung: u64) -> u8
+fn under(r: u64, rung: u64) -> u8
     ensures { λ u. ⌜ (u ≡ cond (ltb r rung) 1 0) × (u ≤ 1) ⌝ }
 {
     if r < rung { 1 } else { 0 }

@@ -19,11 +19,14 @@ chosen-requires c κs = search needs
 store-eight-requires : tie.Need-store-eight-requires
 store-eight-requires c κs = search needs
 
-add-t10 : tie.Need-add-t10
-add-t10 c =
+written-requires : tie.Need-written-requires
+written-requires c κs = search needs
+
+add-t12 : tie.Need-add-t12
+add-t12 c =
     let at-chosen = c .before .before .before .before .before in
     let entry = at-chosen .before .before .before .before in
-    omega (arith, at-chosen .chosen .ensures .1, written-small (at-chosen .chosen .result .coded .code), entry .pre .room, entry .pre .small)
+    omega (arith, c .written .ensures, written-small (at-chosen .chosen .result .code), entry .pre .room, entry .pre .small)
 
 same-length : tie.Need-same-length
 same-length c = search needs
@@ -33,9 +36,9 @@ returns-3 c =
     let at-store-eight = c .before .before .before in
     let at-chosen = at-store-eight .before .before in
     let entry = at-chosen .before .before .before .before in
-    chosen-staged _ _ _ _ _ (entry .pre .room) (at-chosen .chosen .ensures .0) (at-store-eight .store-eight .ensures) _ (at-chosen .chosen .ensures .1)
+    chosen-staged _ _ _ _ _ (entry .pre .room) (at-chosen .chosen .ensures) (at-store-eight .store-eight .ensures) _ (c .written .ensures)
 
 pub stage-chosen-spec : {M : Type 1} → statement M
 stage-chosen-spec =
     tie.close
-    (tie.spec returns returns-2 chosen-requires store-eight-requires add-t10 same-length returns-3)
+    (tie.spec returns returns-2 chosen-requires store-eight-requires written-requires add-t12 same-length returns-3)
