@@ -56,8 +56,9 @@
  *   words come out. It can be in a slot number or in the exam number: then the words answer to another
  *   slot or exam. Where storage can damage bytes, keep a checksum of your own.
  *
- *   A file that was cut short hardly ever opens, but it may: where a block's own bytes happen to end like
- *   a file. Then coil_fetch refuses at least one of its slots. A block that was cut short is always
+ *   A file that these calls made and that was cut short hardly ever opens, but it may: where a block's own
+ *   bytes happen to end like a file. Then coil_fetch refuses at least one of its slots. Of a file that
+ *   another program made, a first part may open with nothing refused. A block that was cut short is always
  *   refused. docs/CUT_FILES.md has the details.
  */
 #ifndef COIL_H

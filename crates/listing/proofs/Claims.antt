@@ -141,7 +141,7 @@ listed-within {f} {text} p = rw (ap (λ (x : Listed). x .length) (p .answer), p 
 pub listing-fits : (f : List ℕ) (room : ℕ) → Bytes f → listNumber f room ≡ 0 → length (listing (fileIn f)) ≤ mostText (length (fileIn f .entries))
 listing-fits f room b z = listing-within f room b (takes f room z)
 
--- Room for 23,618 bytes is enough for every file that opens.
+-- Of a file that opens, list asks for room for at most 23,618 bytes: so much is enough for every file that it takes.
 pub room-for-all : (f : List ℕ) → openedNumber (opened f (length f) (examIn f)) ≡ 0 → mostText (length (fileIn f .entries)) ≤ 23618
 room-for-all f e = most-text f (sym (opened-whole f (examIn f)) ∙ e)
 
