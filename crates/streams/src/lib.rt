@@ -1,5 +1,7 @@
 // Standard input and the two outputs, for the programs. A read that fails is not the end of the
 // input, so the two are told apart.
+ghost use mathlib.Core.Path.{_≡_};
+ghost use mathlib.Core.Bool.{true};
 ghost use Rattle.io.specs.Counts.{Counts};
 use libc::STDERR_FILENO;
 use libc::STDIN_FILENO;
@@ -22,9 +24,9 @@ fn read_once(part: &mut [u8]) -> Input
 }
 
 // Reads standard input into the start of a buffer until the input ends, the buffer is full or a read
-// fails.
+// fails. Where a read failed nothing is counted, so that no part is taken for the whole.
 pub fn read_input(buffer: &mut [u8]) -> Input
-    ensures { λ r. ⌜ Counts (r .count) (now (buffer .exit)) ⌝ }
+    ensures { λ r. ⌜ (r .failed ≡ true → r .count ≡ 0) × Counts (r .count) (now (buffer .exit)) ⌝ }
 {
     let mut count: usize = 0;
     while count < buffer.len() {

@@ -4,6 +4,7 @@
 // runs these and all other cases from C.
 //
 // The prover pays for each lend to a call. So the cases here are few, and the files are written out.
+ghost use mathlib.Core.Path.{_≡_};
 use exams::Opened;
 use libc::STDOUT_FILENO;
 
@@ -23,7 +24,10 @@ fn hex(byte: u64) {
     io::print_hex(STDOUT_FILENO, byte, 2);
 }
 
-fn wide(b: u8) -> u64 {
+// A byte as a word.
+fn wide(b: u8) -> u64
+    ensures { λ r. ⌜ r ≡ b ⌝ }
+{
     b as u64
 }
 
