@@ -12,10 +12,7 @@ demo:
 	@examples/demo
 
 lib:
-	@echo "Proving the library from its rules up, then building it for x86-64. About 2 minutes the first time."
-	@command -v rt >/dev/null || { echo "This needs rt, the command of the Rattle kit, on the PATH."; exit 1; }
-	rt staticlib coil
-	@echo "Link your program with target/staticlib/libcoil.a and include/coil.h."
+	@examples/lib
 
 test:
 	@echo "Proving everything from nothing, trying every wrong version, then the tests from outside. About 10 minutes."

@@ -1,5 +1,6 @@
 #!/usr/bin/env python3
-"""plot.py LINES PLOT: draws the benchmark's lines (see table.c) as bars, an SVG file.
+"""plot.py LINES PLOT MEASURED: draws the benchmark's lines (see table.c) as bars, an SVG file. MEASURED is a line for
+its head: on which machine, and which code.
 
 Three panels, one above the other: size, time to pack, time to unpack. In each a group of bars for each input.
 Sizes have a plain scale, times a logarithmic one. A bar of a time starts at 1, the store's own time at
@@ -12,7 +13,7 @@ from html import escape
 
 WORDS = "65536"
 WIDTH, LEFT, RIGHT = 1160, 76, 16
-TOP, PANEL, GAP = 112, 230, 92
+TOP, PANEL, GAP = 136, 230, 92
 TITLES = {"size": "Size: packed bytes to raw bytes",
           "pack_ns": "Time to pack, to the store's at t = 10",
           "unpack_ns": "Time to unpack, to the store's at t = 10"}
@@ -127,8 +128,8 @@ def panel(inputs, what, top):
 def legend(inputs):
     parts, x = [], LEFT
     for name in names_in(inputs):
-        parts.append(f'<rect x="{x}" y="48" width="12" height="12" fill="{COLOURS[name]}"/>')
-        parts.append(text(x + 17, 59, name, 12))
+        parts.append(f'<rect x="{x}" y="70" width="12" height="12" fill="{COLOURS[name]}"/>')
+        parts.append(text(x + 17, 81, name, 12))
         x += 36 + int(6.7 * len(name))
     return parts
 
@@ -140,7 +141,8 @@ def main():
     parts = [f'<svg xmlns="http://www.w3.org/2000/svg" width="{WIDTH}" height="{height}" '
              f'viewBox="0 0 {WIDTH} {height}" font-family="DejaVu Sans, Helvetica, Arial, sans-serif">',
              f'<rect width="{WIDTH}" height="{height}" fill="white"/>',
-             text(LEFT, 30, title, 17, "start", 'font-weight="bold"')]
+             text(LEFT, 30, title, 17, "start", 'font-weight="bold"'),
+             text(LEFT, 51, sys.argv[3], 12, "start", 'fill="#555"')]
     parts += legend(inputs)
     for k, what in enumerate(TITLES):
         parts += panel(inputs, what, TOP + k * (PANEL + GAP))

@@ -1,6 +1,7 @@
 # For run and before, which source it from the top folder of the repository: what says that nothing can be
 # measured, the store's own code for this machine, and the place of a table in the page.
 
+. examples/watched.sh
 say() { echo "bench: $*" >&2; }
 cc=${CC:-cc}
 machine=$(uname -m)
@@ -24,9 +25,11 @@ must_have() { # COMMAND...
 
 if [ "$machine" = x86_64 ]; then
     kind="libcoil.a as it is shipped"
+    short_kind=$kind
     compile_store() { (cd "$1" && rt staticlib coil) && cp "$1/target/staticlib/libcoil.a" "$2"; }
 else
     kind="the LLVM module of libcoil.a, compiled for this machine with the kit's own options (bench/native)"
+    short_kind="the LLVM module of libcoil.a, compiled for it by bench/native, not the shipped x86-64 code"
     compile_store() { "$1/bench/native" "$2"; }
 fi
 
@@ -41,7 +44,7 @@ make_store() { # CHECKOUT OBJECT
         exit 1
     fi
     say "proving and compiling the store (some minutes where nothing is proved yet)"
-    if ! compile_store "$1" "$2" >"$out/store.log" 2>&1; then
+    if ! watched "$out/store.log" compile_store "$1" "$2"; then
         tail -n 5 "$out/store.log" >&2
         say "nothing measured: the store could not be compiled for $machine"
         exit 1

@@ -1,7 +1,7 @@
 /* Keeps the coil sensitivity maps of one exam in one file and reads one back.
  *
- * The memory here is static and sized by the macros of coil.h. A real program would write the first
- * "length" bytes of the buffer to disk, and read them back before it opens the file.
+ * The memory here is static and sized by the macros of coil.h. The file stays in memory: exam_on_disk.c, beside
+ * this one, keeps it on disk.
  */
 #include "coil.h"
 
