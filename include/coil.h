@@ -175,7 +175,8 @@ uint32_t coil_unpack(const uint8_t *block, size_t block_len,
 /* A file is lent as a buffer of file_len bytes. The file itself is the first length bytes of it. What
  * lies beyond length is free room for appending. Keep the length with the buffer: each call that makes
  * or changes a file answers the new one. To store the file on disk, write its first length bytes, best under
- * a new name that then replaces the old one. To go on with it, read it into a buffer with room to append.
+ * a new name that then replaces the old one, with a hash. To go on with it, read it into a buffer with room to
+ * append. examples/exam_on_disk.c does both.
  *
  * "open" in the lists of checks below is all of coil_open's checks in their order. */
 
