@@ -2,7 +2,7 @@
 use mathlib.Core.Path.{_≡_, refl, sym, ap, _∙_}
 use mathlib.Core.List.{List, [], _∷_}
 use mathlib.Core.Bool.{cond}
-use Prim.Native.Nat.{ℕ, zero, suc, min, _+_, _*_, _/_, _%_, _≤_, _<_}
+use Prim.Native.Nat.{ℕ, zero, suc, _+_, _*_, _/_, _%_, _≤_, _<_}
 use native.Mathlib.Omega.{arith}
 use native.Mathlib.Numerals.{add-one}
 use lib.Dec.{eqb}
@@ -56,9 +56,7 @@ length-halves (b ∷ bs) = omega (arith, length-halves bs)
 
 pub length-counted : (b : List ℕ) (n : ℕ) → Counted b n → length (countedCodes b) ≡ n
 unfolding countedCodes
-length-counted b n c =
-    let e : length (take (count b) (halves (drop 8 b))) ≡ min (count b) (length (halves (drop 8 b))) = length-take (count b) (halves (drop 8 b)) in
-    omega (arith, e, length-halves (drop 8 b), length-drop 8 b, c .count, c .codes)
+length-counted b n c = simp (length-take, length-halves, length-drop) (omega (arith, c .count, c .codes))
 
 -- the next code
 pub counted-next : (b : List ℕ) (n i : ℕ) → Counted b n → i < n → drop i (countedCodes b) ≡ getD (halves (drop 8 b)) i 0 ∷ drop (i + 1) (countedCodes b)

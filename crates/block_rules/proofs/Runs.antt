@@ -126,8 +126,10 @@ module _ (choice : Choice) (thrifty : Thrifty choice) where
     steps-updated m v o = rw (steps-difference m v o)
 
     steps-stored : (m : Memory) (v : ℕ) → OnSteps m v → getD (learn t m v .dfcm) (m .dfcmHash) 0 ≡ d % 2 ^ 64
-    unfolding learn
-    steps-stored m v o = getD-set-same (m .dfcm) (m .dfcmHash) (difference m v) 0 (omega (arith, o .held .dfcm, o .held .dfcmHash)) ∙ steps-difference m v o
+    unfolding learn difference sub64 add64
+    steps-stored m v o =
+        let h : m .dfcmHash < length (m .dfcm) = omega (arith, o .held .dfcm, o .held .dfcmHash) in
+        rw getD-set-same (omega (arith, o .word, o .last))
 
     steps-free : (m : Memory) (v : ℕ) → OnSteps m v → learn t m v .dfcmHash ≡ m .dfcmHash → written (codedWord choice (learn t m v) (add64 v d) .code) ≡ 0
     unfolding learn dfcmPrediction

@@ -76,11 +76,11 @@ going-starts b n f d words p =
       all = rw (p .count, e);
     }
 
-pub gets-word : (t : ℕ) (m : Memory) (b : List ℕ) (at code k : ℕ) (words : List ℕ) (i : ℕ) (f d : List ℕ) (c : Carry) (p v : ℕ)
-    → p ≡ namedPrediction m code → v ≡ xor (field (written code) at b) p → memory f d c ≡ learn t m v → k ≡ written code
-    → GetsWord t m b at code words i f d (set words i v) (record { at = at + k; carry = c })
+pub gets-word : (t : ℕ) (m : Memory) (b : List ℕ) (at code : ℕ) (words : List ℕ) (i : ℕ) (f d : List ℕ) (r : Place) (p v : ℕ)
+    → p ≡ namedPrediction m code → v ≡ xor (field (written code) at b) p → memory f d (r .carry) ≡ learn t m v → r .at ≡ at + written code
+    → GetsWord t m b at code words i f d (set words i v) r
 unfolding decodedWord
-gets-word t m b at code k words i f d c p v e1 e2 e3 e4 = record { word = cc; learnt = cc; next = rw e4 }
+gets-word t m b at code words i f d r p v e1 e2 e3 e4 = record { word = cc; learnt = cc; next = e4 }
 
 learnt-long : (t : ℕ) (f d f' d' : List ℕ) (c c' : Carry) (v : ℕ) → memory f' d' c' ≡ learn t (memory f d c) v → (length f' ≡ length f) × (length d' ≡ length d)
 unfolding learn
@@ -88,11 +88,27 @@ learnt-long t f d f' d' c c' v e = (ap (λ (m : Memory). length (m .fcm)) e ∙ 
 
 module _ (b : List ℕ) (n : ℕ) (f₀ d₀ words₀ f d words : List ℕ) (at : ℕ) (c : Carry) (i : ℕ) (g : Going b n f₀ d₀ words₀ f d words at c i)
     (p : Getting b n f₀ d₀ words₀) where
-  -- the next word can be read
-  pub going-next : (code : ℕ) → i < n → code ≡ getD (halves (drop 8 b)) i 0 → (Decodable b at code f d c) × (i < length words)
-  going-next code h e =
-      let l = rw (counted-next b n i (counted b n (p .whole) (p .count)) h) at (g .bytes) in
-      (record { ready = g .ready; past = g .past; within = omega (arith, l, ap written e) }, omega (arith, p .room, g .wordsLong))
+  -- the residual bytes of the next code end within the block
+  pub code-within : (code : ℕ) → i < n → code ≡ getD (halves (drop 8 b)) i 0 → at + written code ≤ length b
+  code-within code h e = omega (arith, rw (counted-next b n i (counted b n (p .whole) (p .count)) h) at (g .bytes), ap written e)
+
+  -- so do those of the next two, in whichever order they are read
+  pub codes-within : (one two : ℕ) → i + 1 < n → one ≡ getD (halves (drop 8 b)) i 0 → two ≡ getD (halves (drop 8 b)) (i + 1) 0 → at + written one + written two ≤ length b
+  codes-within one two h e q =
+      let k = counted b n (p .whole) (p .count) in
+      omega (arith, rw (counted-next b n i k (omega arith), counted-next b n (i + 1) k h) at (g .bytes), ap written e, ap written q)
+
+  -- a word can be read where its residual bytes end within the block
+  pub going-next : (code : ℕ) → i < n → at + written code ≤ length b → (Decodable b at code f d c) × (i < length words)
+  going-next code h l = (record { ready = g .ready; past = g .past; within = l }, omega (arith, p .room, g .wordsLong))
+
+  -- so can the word after it, whatever the code of the first was
+  pub going-second : (f' d' words' : List ℕ) (r : Place) (code two : ℕ) → i + 1 < n → GetsWord (tOf (length f)) (memory f d c) b at code words i f' d' words' r
+      → r .at + written two ≤ length b → (Decodable b (r .at) two f' d' (r .carry)) × (i + 1 < length words')
+  going-second f' d' words' r code two h s l = (
+    record { ready = ready-learn f d f' d' c (r .carry) _ (g .ready) (s .learnt); past = omega (arith, g .past, s .next); within = l },
+    omega (arith, p .room, g .wordsLong, ap length (s .word) ∙ length-set words i _),
+  )
 
   pub going-on : (f' d' words' : List ℕ) (r : Place) (code : ℕ) → i < n → code ≡ getD (halves (drop 8 b)) i 0
       → GetsWord (tOf (length f)) (memory f d c) b at code words i f' d' words' r

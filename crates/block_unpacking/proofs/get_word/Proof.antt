@@ -1,3 +1,4 @@
+use native.Mathlib.Omega.{arith}
 use borrow.Author.Needs.{needs}
 use Rattle.block_rules.specs.Inside.{memory}
 use Rattle.block_unpacking.proofs.GetLoop.{gets-word}
@@ -40,7 +41,7 @@ returns c =
     let at-corrected = at-learn .before .before .before in
     let at-named-prediction = at-corrected .before in
     let entry = at-named-prediction .before .before .before .before .before .before .before .before in
-    gets-word _ (memory (entry .args .fcm .now) (entry .args .dfcm .now) (entry .args .place .carry)) (entry .args .block .now) (entry .args .place .at) (entry .args .code) _ _ _ _ _ _ _ _ (at-named-prediction .named-prediction .ensures) (at-corrected .corrected .ensures) (at-learn .learn .ensures) (c .written .ensures)
+    gets-word _ (memory (entry .args .fcm .now) (entry .args .dfcm .now) (entry .args .place .carry)) (entry .args .block .now) (entry .args .place .at) (entry .args .code) _ _ _ _ _ _ _ (at-named-prediction .named-prediction .ensures) (at-corrected .corrected .ensures) (at-learn .learn .ensures) (omega (arith, c .written .ensures))
 
 pub get-word-spec : {M : Type 1} → statement M
 get-word-spec =

@@ -4,7 +4,7 @@ use native.Mathlib.Omega.{arith}
 use borrow.Author.Needs.{needs}
 use Rattle.block_rules.proofs.Accept.{counted}
 use Rattle.block_rules.proofs.Get.{half-high, half-low}
-use Rattle.block_unpacking.proofs.GetLoop.{Going, going-starts, going-next, going-on, going-ends}
+use Rattle.block_unpacking.proofs.GetLoop.{Going, going-starts, code-within, codes-within, going-next, going-second, going-on, going-ends}
 use Rattle.block_unpacking.proofs.get_words.Statement.{statement}
 use Rattle.block_unpacking.proofs.get_words.Tie as tie
 
@@ -47,7 +47,9 @@ get-word-requires c κs =
     let entry = at-loop .before .before .before .before .before in
     let block = entry .args .block .now in
     let j = at-loop .loop .j in
-    going-next _ _ _ _ _ _ _ _ _ _ _ (at-loop .loop .inv) (entry .pre) _ (omega (arith, at-loop-test .loop-test .taken)) (half-high block j _ refl)
+    let h : 2 * j + 1 < entry .args .n = omega (arith, at-loop-test .loop-test .taken) in
+    let l = codes-within _ _ _ _ _ _ _ _ _ _ _ (at-loop .loop .inv) (entry .pre) _ _ h (half-high block j _ refl) (half-low block j _ refl) in
+    going-next _ _ _ _ _ _ _ _ _ _ _ (at-loop .loop .inv) (entry .pre) _ (omega (arith, h)) (omega (arith, l))
 
 mul-get-word-2 : tie.Need-mul-get-word-2 Inv-loop μ-loop
 mul-get-word-2 c = search needs
@@ -64,8 +66,8 @@ get-word-requires-2 c κs =
     let block = entry .args .block .now in
     let j = at-loop .loop .j in
     let h : 2 * j + 1 < entry .args .n = omega (arith, at-loop-test .loop-test .taken) in
-    let g = going-on _ _ _ _ _ _ _ _ _ _ _ (at-loop .loop .inv) (entry .pre) _ _ _ _ _ (omega (arith, h)) (half-high block j _ refl) (at-get-word .get-word .ensures) in
-    going-next _ _ _ _ _ _ _ _ _ _ _ g (entry .pre) _ h (half-low block j _ refl)
+    let l = codes-within _ _ _ _ _ _ _ _ _ _ _ (at-loop .loop .inv) (entry .pre) _ _ h (half-high block j _ refl) (half-low block j _ refl) in
+    going-second _ _ _ _ _ _ _ _ _ _ _ (at-loop .loop .inv) (entry .pre) _ _ _ _ _ _ h (at-get-word .get-word .ensures) (omega (arith, l, at-get-word .get-word .ensures .next))
 
 add-j : tie.Need-add-j Inv-loop μ-loop
 add-j c =
@@ -115,7 +117,9 @@ get-word-requires-3 c κs =
     let at-loop = at-loop-test .before in
     let entry = at-loop .before .before .before .before .before in
     let i : entry .args .n - 1 ≡ 2 * at-loop .loop .j = omega (arith, at-loop-test .loop-test .left, at-if1 .if1 .taken, at-loop .loop .inv .upto) in
-    rw i (going-next _ _ _ _ _ _ _ _ _ _ _ (at-loop .loop .inv) (entry .pre) _ (omega (arith, i)) (rw i at (at-half .half .ensures)))
+    let h : 2 * at-loop .loop .j < entry .args .n = omega (arith, i) in
+    let l = code-within _ _ _ _ _ _ _ _ _ _ _ (at-loop .loop .inv) (entry .pre) _ h (rw i at (at-half .half .ensures)) in
+    rw i (going-next _ _ _ _ _ _ _ _ _ _ _ (at-loop .loop .inv) (entry .pre) _ h l)
 
 same-length : tie.Need-same-length Inv-loop μ-loop
 same-length c = search needs

@@ -1,4 +1,5 @@
 use mathlib.Core.Path.{refl}
+use native.Mathlib.Omega.{arith}
 use borrow.Author.Needs.{needs}
 use Rattle.words.specs.Words.{add64}
 use Rattle.block_rules.specs.Inside.{memory}
@@ -16,7 +17,7 @@ returns : tie.Need-returns
 returns c =
     let at-if1 = c .before in
     let entry = at-if1 .before .before .before in
-    named-fcm (memory (entry .args .fcm .now) (entry .args .dfcm .now) (entry .args .carry)) _ _ (at-if1 .if1 .taken) refl
+    named-fcm (memory (entry .args .fcm .now) (entry .args .dfcm .now) (entry .args .carry)) (entry .args .code) _ (omega (arith, at-if1 .if1 .taken)) refl
 
 mul-wrapping-add-u64 : tie.Need-mul-wrapping-add-u64
 mul-wrapping-add-u64 c = search needs
@@ -32,7 +33,7 @@ unfolding add64
 returns-2 c =
     let at-if1 = c .before .before in
     let entry = at-if1 .before .before .before in
-    named-dfcm (memory (entry .args .fcm .now) (entry .args .dfcm .now) (entry .args .carry)) _ _ (at-if1 .if1 .left) (c .wrapping-add-u64 .ensures)
+    named-dfcm (memory (entry .args .fcm .now) (entry .args .dfcm .now) (entry .args .carry)) (entry .args .code) _ (omega (arith, at-if1 .if1 .left)) (c .wrapping-add-u64 .ensures)
 
 pub named-prediction-spec : {M : Type 1} → statement M
 named-prediction-spec =

@@ -11,7 +11,7 @@ sub-load-eight : tie.Need-sub-load-eight
 sub-load-eight c = search needs
 
 load-eight-requires : tie.Need-load-eight-requires
-load-eight-requires c κs = search needs
+load-eight-requires c κs = omega arith
 
 mul-result : tie.Need-mul-result
 mul-result c = search needs

@@ -9,7 +9,9 @@ use Rattle.blocks.proofs.numbers.tables_number.Tie as tie
 
 returns : tie.Need-returns
 unfolding tablesNumber
-returns c = fails-here _ _ _ (unless-fails _ _ (ne-eqb _ _ (c .if1 .taken))) (λ e. omega arith)
+returns c =
+    let entry = c .before in
+    fails-here _ _ _ (unless-fails _ _ (ne-eqb (entry .args .fcm) (entry .args .dfcm) (λ e. omega (arith, c .if1 .taken)))) (λ e. omega arith)
 
 is-table-length-requires : tie.Need-is-table-length-requires
 is-table-length-requires c κs = search needs
@@ -17,13 +19,17 @@ is-table-length-requires c κs = search needs
 returns-2 : tie.Need-returns-2
 unfolding tablesNumber
 returns-2 c =
-    fails-later _ _ _ (unless-passes _ _ (eq-eqb _ _ (c .before .before .if1 .left)))
+    let at-if1 = c .before .before in
+    let entry = at-if1 .before in
+    fails-later _ _ _ (unless-passes _ _ (eq-eqb (entry .args .fcm) (entry .args .dfcm) (omega (arith, at-if1 .if1 .left))))
     (fails-here _ _ _ (unless-fails _ _ (sym (c .before .is-table-length .ensures) ∙ not-true _ (c .if2 .taken))) (λ e. omega arith))
 
 returns-3 : tie.Need-returns-3
 unfolding tablesNumber
 returns-3 c =
-    fails-later _ _ _ (unless-passes _ _ (eq-eqb _ _ (c .before .before .if1 .left)))
+    let at-if1 = c .before .before in
+    let entry = at-if1 .before in
+    fails-later _ _ _ (unless-passes _ _ (eq-eqb (entry .args .fcm) (entry .args .dfcm) (omega (arith, at-if1 .if1 .left))))
     (fails-later _ _ _ (unless-passes _ _ (sym (c .before .is-table-length .ensures) ∙ not-false _ (c .if2 .left))) all-pass)
 
 pub tables-number-spec : {M : Type 1} → statement M
