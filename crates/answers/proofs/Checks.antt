@@ -1,7 +1,7 @@
 -- Checks in order, and what is left.
 use mathlib.Core.Path.{_≡_, refl, ap, _∙_}
 use mathlib.Core.List.{List, [], _∷_, _++_}
-use mathlib.Core.Bool.{Bool, true, false}
+use mathlib.Core.Bool.{Bool, true, false, _&&_, true≢false, false≢true}
 use Prim.Native.Nat.{ℕ, zero, suc, _≤_, _<_}
 use native.Mathlib.Omega.{arith}
 use native.Mathlib.Nat.{zero-add}
@@ -14,17 +14,22 @@ use Rattle.answers.specs.Answers.{unless, firstFailure, afterwards, over
 pub unless-passes : (test : Bool) (k : ℕ) → test ≡ true → unless test k ≡ 0
 unfolding unless
 unless-passes true k e = refl
-unless-passes false k e = absurd (let z : _≡_ {A = ℕ} 0 1 = cc in omega arith)
+unless-passes false k e = absurd (false≢true e)
 
 pub unless-fails : (test : Bool) (k : ℕ) → test ≡ false → k ≡ unless test k
 unfolding unless
 unless-fails false k e = refl
-unless-fails true k e = absurd (let z : _≡_ {A = ℕ} 0 1 = cc in omega arith)
+unless-fails true k e = absurd (true≢false e)
 
 pub unless-holds : (test : Bool) (k : ℕ) → unless test k ≡ 0 → 0 < k → test ≡ true
 unfolding unless
 unless-holds true k e h = refl
 unless-holds false k e h = absurd (omega arith)
+
+-- a test of two: both hold
+pub both-hold : (p q : Bool) → (p && q) ≡ true → (p ≡ true) × (q ≡ true)
+both-hold true q e = (refl, e)
+both-hold false q e = absurd (false≢true e)
 
 -- ---- checks in order
 

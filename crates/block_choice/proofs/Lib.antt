@@ -1,2 +1,2 @@
 pub mod Learning
-pub mod Coding
+pub mod Choosing

@@ -1,17 +1,8 @@
 // The choice between the two residuals, and the code of the chosen one.
 ghost use mathlib.Core.Path.{_≡_};
-ghost use mathlib.Core.Bool.{cond};
 ghost use Prim.Native.Nat.{_≤_, _<_};
-ghost use Rattle.words.specs.Words.{zeroBytes};
-ghost use Rattle.block_rules.specs.Codes.{dfcmChosen, lowThree, written, codedBy, chosen};
+ghost use Rattle.block_rules.specs.Codes.{dfcmChosen, lowThree, written, chosen};
 use block_rules::Coded;
-
-// The top bit of a code.
-fn top_bit(dfcm: bool) -> u8
-    ensures { λ r. ⌜ r ≡ cond dfcm 8 0 ⌝ }
-{
-    if dfcm { 8 } else { 0 }
-}
 
 // The low three bits of a code, from the leading zero bytes: from four on one less, since four are
 // coded as three.
@@ -31,18 +22,7 @@ pub fn written(code: u8) -> usize
     8 - low - low / 4
 }
 
-// A residual with its code, once its leading zero bytes are counted.
-fn coded(dfcm: bool, zeros: u8, residual: u64) -> Coded
-    requires { ⌜ (zeros ≤ 7) × (zeros ≡ zeroBytes residual) ⌝ }
-    ensures { λ r. ⌜ r ≡ codedBy dfcm residual ⌝ }
-{
-    Coded {
-        code: top_bit(dfcm) + low_three(zeros),
-        residual,
-    }
-}
-
-// Of two residuals, neither of them 0, the chosen one with its code.
+// Of two residuals, neither of them 0, the chosen one with its code. The top bit, 8, is for dfcm.
 pub fn chosen(by_fcm: u64, by_dfcm: u64) -> Coded
     requires { ⌜ (0 < «by_fcm») × (0 < «by_dfcm») ⌝ }
     ensures { λ r. ⌜ r ≡ chosen dfcmChosen «by_fcm» «by_dfcm» ⌝ }
@@ -50,8 +30,14 @@ pub fn chosen(by_fcm: u64, by_dfcm: u64) -> Coded
     let zeros_fcm = words::zero_bytes(by_fcm);
     let zeros_dfcm = words::zero_bytes(by_dfcm);
     if zeros_fcm < zeros_dfcm {
-        coded(true, zeros_dfcm, by_dfcm)
+        Coded {
+            code: 8 + low_three(zeros_dfcm),
+            residual: by_dfcm,
+        }
     } else {
-        coded(false, zeros_fcm, by_fcm)
+        Coded {
+            code: low_three(zeros_fcm),
+            residual: by_fcm,
+        }
     }
 }

@@ -17,7 +17,7 @@ use Rattle.block_rules.specs.declared.Coded.{Coded}
 use Rattle.block_rules.proofs.Codes.{written-small}
 use Rattle.block_rules.proofs.Learn.{start, cleared-is, cleared-of, ready-start, two-ready}
 use Rattle.block_rules.proofs.Lengths.{length-residual, length-residuals, length-code-bytes, length-codes, length-coded, length-block}
-use Rattle.block_staging.specs.Inside.{StagesWord, StagesPair, Flushable, MakesRoom}
+use Rattle.block_staging.specs.Inside.{stageLength, mostStaged, StagesWord, StagesPair, Flushable, MakesRoom}
 use Rattle.block_staging.specs.declared.Step.{Step}
 use Rattle.block_staging.specs.declared.Pair.{Pair}
 use Rattle.block_staging.specs.declared.Pending.{Pending}
@@ -36,9 +36,9 @@ pub record Going (ws f₀ d₀ out₀ f d out stage : List ℕ) (at staged : ℕ
   pub fcmLong : length f ≡ length f₀
   pub dfcmLong : length d ≡ length d₀
   pub outLong : length out ≡ length out₀
-  pub stageLong : length stage ≡ 512
+  pub stageLong : length stage ≡ stageLength
   pub ready : Ready f d c
-  pub few : staged ≤ 512
+  pub few : staged ≤ stageLength
   pub from : residualsAt (length ws) ≤ at
   pub to : at + staged ≤ residualsAt (length ws) + 16 * k
   pub state : after (tOf (length f₀)) (memory f d c) (drop (2 * k) ws) ≡ after (tOf (length f₀)) (cleared (tOf (length f₀))) ws
@@ -118,7 +118,7 @@ module _ {ws f₀ d₀ out₀ f d out stage : List ℕ} {at staged : ℕ} {c : C
 
   -- a turn
   pub going-on : (f' d' stage' : List ℕ) (r : Pair) → k < length ws / 2 → length f' ≡ length f → length d' ≡ length d → length stage' ≡ length stage
-      → StagesPair (tOf (length f)) (memory f d c) (getD ws (2 * k) 0) (getD ws (2 * k + 1) 0) stage staged f' d' stage' r → staged ≤ 496
+      → StagesPair (tOf (length f)) (memory f d c) (getD ws (2 * k) 0) (getD ws (2 * k + 1) 0) stage staged f' d' stage' r → staged ≤ mostStaged
       → Going ws f₀ d₀ out₀ f' d' (set out (8 + k) (r .codes)) stage' at (r .staged) (r .carry) (k + 1)
   going-on f' d' stage' r h lf ld ls s few =
       let t = tOf (length f₀) in
@@ -152,7 +152,7 @@ module _ {ws f₀ d₀ out₀ f d out stage : List ℕ} {at staged : ℕ} {c : C
       }
 
   -- after the last whole pair
-  module _ (few : staged ≤ 496) (h : length ws / 2 ≤ k) (n : length ws ≤ 65536) where
+  module _ (few : staged ≤ mostStaged) (h : length ws / 2 ≤ k) (n : length ws ≤ 65536) where
     whole : k ≡ length ws / 2
     whole = omega (arith, g .upto)
 
@@ -219,7 +219,7 @@ module _ {ws f d out stage : List ℕ} {p : Rest} (q : Resting ws f d out stage 
 -- ---- around the loop: the tables cleared before it, the head put after it
 
 pub putting-of : (ws f d out stage f₁ d₁ : List ℕ) → Packable (length ws) (length f) (length d) (length out) → f₁ ≡ replicate (length f) 0 → d₁ ≡ replicate (length d) 0
-    → length stage ≡ 512 → Putting ws f₁ d₁ out stage
+    → length stage ≡ stageLength → Putting ws f₁ d₁ out stage
 putting-of ws f d out stage f₁ d₁ p e q s = record { cleared = cleared-of f d f₁ d₁ (p .sized) e q; few = p .few; room = p .room; stageLong = s }
 
 pub packs-all : (ws f d out f₁ f' d' out₁ out₂ : List ℕ) (end : ℕ) → Packable (length ws) (length f) (length d) (length out) → length f₁ ≡ length f

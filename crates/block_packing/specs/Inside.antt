@@ -8,6 +8,7 @@ use Rattle.block_rules.specs.Predictors.{Memory, after}
 use Rattle.block_rules.specs.Codes.{dfcmChosen, codedWords}
 use Rattle.block_rules.specs.Block.{codes, codeBytes, allResidualBytes, residualsAt, worst}
 use Rattle.block_rules.specs.Inside.{Ready, Cleared}
+use Rattle.block_staging.specs.Inside.{stageLength, mostStaged}
 use Rattle.block_packing.specs.declared.Rest.{Rest}
 
 -- words are put, from the memory m to the tables f' and d': their code bytes at one place, and at another first what is held back and then their residual bytes
@@ -25,8 +26,8 @@ unpaired words = drop (2 * (length words / 2)) words
 pub record Resting (words f d out stage : List ℕ) (r : Rest) : Type 0 where
   pub ready : Ready f d (r .carry)
   pub few : length words ≤ 65536
-  pub stageLong : length stage ≡ 512
-  pub staged : r .staged ≤ 496
+  pub stageLong : length stage ≡ stageLength
+  pub staged : r .staged ≤ mostStaged
   pub codes : residualsAt (length words) ≤ length out
   pub room : r .at + r .staged + 8 * (length words % 2) ≤ length out
 
@@ -35,4 +36,4 @@ pub record Putting (words f d out stage : List ℕ) : Type 0 where
   pub cleared : Cleared f d
   pub few : length words ≤ 65536
   pub room : worst (length words) ≤ length out
-  pub stageLong : length stage ≡ 512
+  pub stageLong : length stage ≡ stageLength

@@ -124,7 +124,7 @@ pub fn pack_all(words: &[u64], fcm: &mut [u64], dfcm: &mut [u64], out: &mut [u8]
 {
     words::clear(fcm);
     words::clear(dfcm);
-    let mut stage = [0u8; 512];
+    let mut stage = [0u8; 480];
     let end = put_words(words, fcm, dfcm, out, &mut stage);
     put_head(out, words.len(), end);
     end

@@ -2,24 +2,24 @@
 use mathlib.Core.Path.{refl}
 use mathlib.Core.List.{List, [], _∷_, List·Mem}
 use Prim.Native.Nat.{ℕ}
-use Rattle.answers.proofs.Numbers.{one-of-more, none-named, verdict-named, check-named}
+use Rattle.answers.proofs.OneOf.{one-of-more, no-check-one-of, verdict-one-of, check-one-of}
 use Rattle.block_rules.specs.Numbers.{tablesNumber, packNumber, blockNumber, unpackNumber}
 
 tables-one-of : (f d : ℕ) → List·Mem (tablesNumber f d) (0 ∷ 1 ∷ [])
 unfolding tablesNumber
-tables-one-of f d = check-named _ 1 _ (check-named _ 1 _ (none-named _) refl) refl
+tables-one-of f d = check-one-of _ 1 _ (check-one-of _ 1 _ (no-check-one-of _) refl) refl
 
 pub pack-one-of : (n f d room : ℕ) → List·Mem (packNumber n f d room) (0 ∷ 1 ∷ 2 ∷ 3 ∷ [])
 unfolding packNumber
-pack-one-of n f d room = verdict-named _ _ (one-of-more _ _ (tables-one-of f d) refl) (check-named _ 2 _ (check-named _ 3 _ (none-named _) refl) refl)
+pack-one-of n f d room = verdict-one-of _ _ (one-of-more _ _ (tables-one-of f d) refl) (check-one-of _ 2 _ (check-one-of _ 3 _ (no-check-one-of _) refl) refl)
 
 pub block-one-of : (b : List ℕ) → List·Mem (blockNumber b) (0 ∷ 4 ∷ 2 ∷ 5 ∷ 6 ∷ [])
 unfolding blockNumber
 block-one-of b =
-    check-named _ 4 _ (check-named _ 2 _ (check-named _ 5 _ (check-named _ 5 _ (check-named _ 6 _ (none-named _) refl) refl) refl) refl) refl
+    check-one-of _ 4 _ (check-one-of _ 2 _ (check-one-of _ 5 _ (check-one-of _ 5 _ (check-one-of _ 6 _ (no-check-one-of _) refl) refl) refl) refl) refl
 
 pub unpack-one-of : (b : List ℕ) (f d room : ℕ) → List·Mem (unpackNumber b f d room) (0 ∷ 1 ∷ 4 ∷ 2 ∷ 5 ∷ 6 ∷ 3 ∷ [])
 unfolding unpackNumber
 unpack-one-of b f d room =
-    verdict-named _ _ (one-of-more _ _ (tables-one-of f d) refl)
-    (verdict-named _ _ (one-of-more _ _ (block-one-of b) refl) (check-named _ 3 _ (none-named _) refl))
+    verdict-one-of _ _ (one-of-more _ _ (tables-one-of f d) refl)
+    (verdict-one-of _ _ (one-of-more _ _ (block-one-of b) refl) (check-one-of _ 3 _ (no-check-one-of _) refl))

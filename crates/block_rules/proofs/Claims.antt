@@ -30,7 +30,7 @@ worked-by-hand = refl
 
 -- ---- nothing cut short, nothing added
 
--- A block that is too short for the codes it counts answers 5.
+-- Where 4 and 2 do not answer, a block that is too short for the codes it counts answers 5.
 pub codes-need-room : (b : List ℕ) → 8 ≤ length b → count b ≤ 65536 → length b < residualsAt (count b) → checked b .number ≡ 5
 codes-need-room b h few l = checks-number b ∙ sym (too-short-for-codes b h few l)
 

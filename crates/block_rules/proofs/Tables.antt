@@ -1,6 +1,6 @@
 -- A table's length and its t. Nothing else opens `tOf` and `isTableLength`.
 use mathlib.Core.Path.{_≡_, refl, sym, ap, _∙_}
-use mathlib.Core.Bool.{Bool, true, false, _&&_}
+use mathlib.Core.Bool.{false}
 use Prim.Native.Nat.{ℕ, zero, suc, _*_, _/_, _%_, _^_, _≤_, _<_}
 use native.Mathlib.Omega.{arith}
 use native.Mathlib.Nat.{pow-suc, one-mul}
@@ -8,7 +8,7 @@ use lib.Count.{trailingZeros}
 use lib.Dec.{leb, eqb}
 use lib.Pow.{pow-pos, shl-exact}
 use borrow.Author.Tests.{leb-true, eqb-true, le-leb, eq-eqb, lt-leb}
-use Rattle.answers.proofs.Checks.{unless-passes, unless-holds, all-pass, fails-later, none-fails}
+use Rattle.answers.proofs.Checks.{unless-passes, unless-holds, both-hold, all-pass, fails-later, none-fails}
 use Rattle.block_rules.specs.Numbers.{tOf, isTableLength, tablesNumber}
 use Rattle.block_rules.specs.Inside.{Sized}
 
@@ -51,16 +51,11 @@ table-is-power n t e h =
 
 -- ---- what the test tells
 
-both-true : (a b : Bool) → (a && b) ≡ true → (a ≡ true) × (b ≡ true)
-both-true true true e = (refl, refl)
-both-true true false e = (refl, e)
-both-true false b e = (e, absurd (let z : _≡_ {A = ℕ} 0 1 = cc in omega arith))
-
 pub tables-sized : (f d : ℕ) → tablesNumber f d ≡ 0 → Sized f d
 unfolding tablesNumber isTableLength
 tables-sized f d e =
     let a = none-fails _ _ e in
-    let l = both-true (leb (tOf f) 16) (eqb f (2 ^ tOf f)) (unless-holds _ _ (none-fails _ _ (a .1) .0) (omega arith)) in
+    let l = both-hold (leb (tOf f) 16) (eqb f (2 ^ tOf f)) (unless-holds _ _ (none-fails _ _ (a .1) .0) (omega arith)) in
     record {
       small = leb-true _ _ (l .0);
       power = eqb-true _ _ (l .1);

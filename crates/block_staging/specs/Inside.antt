@@ -13,10 +13,18 @@ use Rattle.block_staging.specs.declared.Step.{Step}
 use Rattle.block_staging.specs.declared.Pair.{Pair}
 use Rattle.block_staging.specs.declared.Pending.{Pending}
 
+-- the bytes of the stage
+abbrev pub stageLength : ℕ
+stageLength = 480
+
+-- with so many of them staged at most, two words more have room
+abbrev pub mostStaged : ℕ
+mostStaged = 464
+
 -- room in the stage for k bytes behind those that are staged
 pub record StageRoom (stage : List ℕ) (staged k : ℕ) : Type 0 where
   pub room : staged + k ≤ length stage
-  pub small : length stage ≤ 512
+  pub small : length stage ≤ stageLength
 
 -- residual bytes are staged behind those that were there: the first bytes of the stage are the old ones, then these
 pub record Stages (stage : List ℕ) (staged : ℕ) (bytes stage' : List ℕ) (staged' : ℕ) : Type 0 where
@@ -47,7 +55,7 @@ pub record Flushable (out stage : List ℕ) (p : Pending) : Type 0 where
 
 -- there is room for two words more: some of what is staged may have been copied out, and what it comes to is the same
 pub record MakesRoom (out stage : List ℕ) (p : Pending) (out' : List ℕ) (r : Pending) : Type 0 where
-  pub few : r .staged ≤ 496
+  pub few : r .staged ≤ mostStaged
   pub from : p .at ≤ r .at
   pub same : r .at + r .staged ≡ p .at + p .staged
   pub held : sets out' (r .at) (take (r .staged) stage) ≡ sets out (p .at) (take (p .staged) stage)

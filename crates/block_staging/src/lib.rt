@@ -138,7 +138,7 @@ pub fn make_room(out: &mut [u8], stage: &[u8], place: Pending) -> Pending
     requires { ⌜ Flushable (now out) (now stage) place ⌝ }
     ensures { λ r. ⌜ MakesRoom (now (out .entry)) (now (stage .entry)) place (now (out .exit)) r ⌝ }
 {
-    if place.staged <= 496 {
+    if place.staged <= 464 {
         return place;
     }
     let end = flush(out, stage, place);

@@ -54,7 +54,7 @@ coil-made-fetches first m rest k c lf ld enough =
     (ap (λ (x : Unpacked). x .number) (a .0), ap (λ (x : Unpacked). x .count) (a .0), a .1)
 
 -- Cut such a file anywhere, and let a buffer begin with what is left. coil_open may take it. But never do all blocks that coil_find then finds pass
--- coil_check, and coil_fetch unpacks no others.
+-- coil_check, and coil_fetch unpacks none that does not pass.
 pub coil-cut-is-never-whole : {exam t : ℕ} {ms : List Map} {b : List ℕ} {l : ℕ} → MadeOf exam t ms b l → (k : ℕ) → k < l → (c : List ℕ) → take k c ≡ take k b
     → (asked : ℕ) → CoilOpens c k asked 0 → ((slot offset size : ℕ) → CoilFinds c k asked slot 0 offset size → CoilChecks (take size (drop offset c)) 0) → ⊥
 unfolding located
@@ -222,18 +222,18 @@ coil-append-forgets p q e g z =
 pub coil-own-exam : (b : List ℕ) (l exam : ℕ) {r : ℕ} → CoilOpens b l exam r → r ≡ 0 → (examIn (take l b) ≡ exam) × (0 < exam)
 coil-own-exam b l exam c e = own-exam b l exam (sym c ∙ e)
 
--- Where coil_find answers 0, too. The block has at least 8 bytes, so a length of 0 means refused, and it lies within the file.
+-- Where coil_find answers 0, the exam number in the file is the one asked for. The block has at least 8 bytes, so a length of 0 means refused, and it lies within the file.
 pub coil-find-own-exam : (b : List ℕ) (l exam slot : ℕ) {r offset size : ℕ} → CoilFinds b l exam slot r offset size → r ≡ 0
     → (examIn (take l b) ≡ exam) × (8 ≤ size) × (offset + size ≤ l)
 coil-find-own-exam b l exam slot c e =
     let k = located-has b l exam slot (sym (ap (λ (x : Located). x .number) c) ∙ e) in
     (k .0, rw (ap (λ (x : Located). x .size) c) (k .1), rw (ap (λ (x : Located). x .offset) c, ap (λ (x : Located). x .size) c) (k .2))
 
--- Where coil_fetch answers 0, too.
+-- Where coil_fetch answers 0, the exam number in the file is the one asked for.
 pub coil-fetch-own-exam : {b : List ℕ} {l exam slot : ℕ} {fcm dfcm words f' d' w' : List ℕ} {r n : ℕ} → CoilFetches b l exam slot fcm dfcm words r f' d' w' n → r ≡ 0 → examIn (take l b) ≡ exam
 coil-fetch-own-exam c e = fetch-accepts c .0 e .finds .opens .own
 
--- Where coil_append answers 0, too.
+-- Where coil_append answers 0, the exam number in the file is the one asked for.
 pub coil-append-own-exam : {b : List ℕ} {l exam slot : ℕ} {words fcm dfcm bench b' f' d' n' : List ℕ} {r m : ℕ} → CoilAppends b l exam slot words fcm dfcm bench r b' f' d' n' m → r ≡ 0
     → examIn (take l b) ≡ exam
 coil-append-own-exam c e = append-accepts c .0 e .opens .own

@@ -4,7 +4,7 @@ use mathlib.Core.Logic.{_↔_}
 use mathlib.Core.List.{List, [], _∷_, _++_, map, map-append, List·Mem, mem-cast}
 use Prim.Native.Nat.{ℕ, _+_, _^_, _≤_, _<_}
 use native.Mathlib.Omega.{arith}
-use lib.ListN.{length, take, drop}
+use lib.ListN.{length, take, drop, length-map}
 use Rattle.words.specs.Words.{Words}
 use Rattle.words.specs.Bytes.{Bytes}
 use Rattle.words.proofs.Each.{Each, none, each-more, each-at}
@@ -14,10 +14,10 @@ use Rattle.block_rules.specs.Block.{block}
 use Rattle.block_rules.specs.Calls.{unpacked}
 use Rattle.block_rules.specs.Numbers.{blockNumber}
 use Rattle.block_rules.specs.declared.Unpacked.{Unpacked}
-use Rattle.exam_rules.specs.File.{fileLength, fileBytes, appended}
+use Rattle.exam_rules.specs.File.{File, fileLength, fileBytes, appended}
 use Rattle.exam_rules.specs.Reading.{tIn, examIn, distanceIn, entriesIn, lengthIn, fileIn, entryOf}
 use Rattle.exam_rules.specs.Numbers.{openInNumber, findNumber, blockIn}
-use Rattle.exam_rules.specs.Calls.{opened, openedNumber, openedT, openedEntries, openedStart, Finds, located, fetchesNumber, Fetches, Creates, appendsNumber, Appends}
+use Rattle.exam_rules.specs.Calls.{trailerOf, opened, openedNumber, openedT, openedEntries, openedStart, Finds, located, fetchesNumber, Fetches, Creates, appendsNumber, Appends}
 use Rattle.exam_rules.specs.Maps.{Map, pieceOf, fileOf}
 use Rattle.exam_rules.specs.declared.Located.{Located}
 use Rattle.exam_rules.specs.declared.Made.{Made}
@@ -28,7 +28,7 @@ use Rattle.exam_rules.proofs.Changes.{change-one-answer, changes-number, change
 use Rattle.exam_rules.proofs.Accept.{OpenTakes, open-takes, takes-open, FindTakes, find-takes, takes-find, FetchTakes, fetch-takes, takes-fetch, takes-create, AppendTakes, append-takes, takes-append, opened-number, opened-done, fetches-number, CreateTakes, create-takes}
 use Rattle.exam_rules.proofs.Answered.{open-in-one-of, find-one-of, fetch-one-of, create-one-of, append-one-of}
 use Rattle.exam_rules.proofs.Holds.{Holds, holds-length, holds-parts, holds-opens, copied-holds}
-use Rattle.exam_rules.proofs.Pieces.{created-pieces, appended-pieces, piece-found, piece-block, piece-fetched}
+use Rattle.exam_rules.proofs.Pieces.{length-pieces, created-pieces, appended-pieces, piece-found, piece-block, piece-fetched}
 use Rattle.exam_rules.proofs.Maps.{Fit, map-reads, maps-whole, maps-piece}
 use Rattle.exam_rules.proofs.Cut.{never-all-whole}
 use Rattle.exam_rules.proofs.Kept.{found-long, found-size, found-within, found-part, more-holds, more-opens, slot-kept}
@@ -200,6 +200,13 @@ made-is-its-parts m = let h = made-holds m in (h .bytes, holds-length h)
 pub made-opens : {exam t : ℕ} {ms : List Map} {b : List ℕ} {l : ℕ} → MadeOf exam t ms b l → openedNumber (opened b l exam) ≡ 0
 made-opens {exam} {b = b} {l} m = opened-number b l exam ∙ holds-opens (made-holds m)
 
+-- What open then tells is its t and the number of its maps.
+pub made-tells : {exam t : ℕ} {ms : List Map} {b : List ℕ} {l : ℕ} → MadeOf exam t ms b l → (openedT (opened b l exam) ≡ t) × (openedEntries (opened b l exam) ≡ length ms)
+made-tells {exam} {t} {ms} {b} {l} m =
+    let h = made-holds m in
+    let d = opened-done b l exam (holds-opens h) ∙ ap (λ (f : File). Done (trailerOf f)) (holds-parts h) in
+    (ap openedT d, ap openedEntries d ∙ length-pieces 0 (map (pieceOf t) ms) ∙ length-map ms (pieceOf t))
+
 made-fit : {exam t : ℕ} {ms : List Map} {b : List ℕ} {l : ℕ} → MadeOf exam t ms b l → Each Fit ms
 made-fit (created w c e) = none
 made-fit (grown h s w c e) = each-more (made-fit h) (record { few = append-accepts c .0 e .fewWords; wide = w })
@@ -319,8 +326,8 @@ pub fetched-is-whole : {b : List ℕ} {l exam slot : ℕ} {fcm dfcm words f' d' 
     → blockNumber (blockIn b l slot) ≡ 0
 fetched-is-whole c e = fetch-accepts c .0 e .whole
 
--- Cut a file made by create and appends anywhere, and let a buffer begin with what is left. It may open, for whatever number is asked. But never are the blocks
--- of all slots that it then has whole, and fetch unpacks no others.
+-- Cut a file made by create and appends anywhere, and let a buffer begin with what is left. Whatever number is asked, where it opens never are the blocks of
+-- all slots that it then has whole; and fetch unpacks none that is not whole.
 pub cut-is-never-whole : {exam t : ℕ} {ms : List Map} {b : List ℕ} {l : ℕ} → MadeOf exam t ms b l → (k : ℕ) → k < l → (c : List ℕ) → take k c ≡ take k b
     → (asked : ℕ) → openedNumber (opened c k asked) ≡ 0 → ((slot : ℕ) → findNumber c k asked slot ≡ 0 → blockNumber (blockIn c k slot) ≡ 0) → ⊥
 cut-is-never-whole {exam} {t} {ms} m k short c same asked e w =

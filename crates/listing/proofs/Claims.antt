@@ -10,7 +10,7 @@ use Rattle.words.specs.Words.{add64, sub64, shiftedLeft, shiftedRight, lowBits,
 use Rattle.words.specs.Bytes.{Bytes}
 use Rattle.answers.specs.Answers.{unless, firstFailure}
 use Rattle.answers.proofs.Checks.{afterwards-new, afterwards-old, told-within}
-use Rattle.answers.proofs.Numbers.{one-of-more, none-named, verdict-named, check-named}
+use Rattle.answers.proofs.OneOf.{one-of-more, no-check-one-of, verdict-one-of, check-one-of}
 use Rattle.block_rules.specs.Predictors.{cleared, fcmPrediction, dfcmPrediction, difference, nextFcmHash, nextDfcmHash, learn}
 use Rattle.block_rules.specs.Codes.{fcmResidual, dfcmResidual, dfcmChosen, lowThree, written, codedBy, chosen, codedWord, residualBytes}
 use Rattle.block_rules.specs.Block.{arranged, block, body, countedCodes, lastHalf}
@@ -67,14 +67,14 @@ list-one-answer p q = (p .answer ∙ sym (q .answer), p .textLeft ∙ sym (q .te
 
 blocks-one-of : (f : File) (es : List Entry) → List·Mem (blocksNumber f es) (0 ∷ 4 ∷ 2 ∷ 5 ∷ 6 ∷ [])
 blocks-one-of f [] = mem-cons-self
-blocks-one-of f (e ∷ es) = verdict-named _ _ (block-one-of (blockOf f e)) (verdict-named _ _ (blocks-one-of f es) (none-named _))
+blocks-one-of f (e ∷ es) = verdict-one-of _ _ (block-one-of (blockOf f e)) (verdict-one-of _ _ (blocks-one-of f es) (no-check-one-of _))
 
 list-one-of : (f : List ℕ) (room : ℕ) → List·Mem (listNumber f room) (0 ∷ 3 ∷ 4 ∷ 7 ∷ 8 ∷ 9 ∷ 2 ∷ 5 ∷ 6 ∷ [])
 unfolding listNumber
 list-one-of f room =
-    check-named _ 3 _
-    (verdict-named _ _ (one-of-more _ _ (open-one-of f (examIn f)) refl)
-    (verdict-named _ _ (one-of-more _ _ (blocks-one-of (fileIn f) (fileIn f .entries)) refl) (check-named _ 3 _ (none-named _) refl)))
+    check-one-of _ 3 _
+    (verdict-one-of _ _ (one-of-more _ _ (open-one-of f (examIn f)) refl)
+    (verdict-one-of _ _ (one-of-more _ _ (blocks-one-of (fileIn f) (fileIn f .entries)) refl) (check-one-of _ 3 _ (no-check-one-of _) refl)))
     refl
 
 -- List answers 0, 3, one of open's numbers, or one of check's.

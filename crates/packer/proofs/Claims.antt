@@ -4,7 +4,7 @@ use mathlib.Core.List.{List, [], _∷_, List·Mem, mem-cast}
 use Prim.Native.Nat.{ℕ}
 use lib.ListN.{length}
 use Rattle.answers.proofs.Checks.{afterwards-old, afterwards-new}
-use Rattle.answers.proofs.Numbers.{none-named, check-named}
+use Rattle.answers.proofs.OneOf.{no-check-one-of, check-one-of}
 use Rattle.block_rules.specs.Calls.{packed}
 use Rattle.block_rules.specs.declared.Packed.{Packed}
 use Rattle.packer.specs.Program.{packerNumber, Answers}
@@ -36,7 +36,7 @@ refused-packer-changes-nothing {input} a h =
 
 packer-one-of : (n : ℕ) → List·Mem (packerNumber n) (0 ∷ 2 ∷ 4 ∷ [])
 unfolding packerNumber
-packer-one-of n = check-named _ 2 _ (check-named _ 4 _ (none-named _) refl) refl
+packer-one-of n = check-one-of _ 2 _ (check-one-of _ 4 _ (no-check-one-of _) refl) refl
 
 -- The packer answers 0, 2 or 4.
 pub packer-numbers : {input fcm dfcm out f' d' out' : List ℕ} {r : Packed} → Answers input fcm dfcm out r f' d' out' → List·Mem (r .number) (0 ∷ 2 ∷ 4 ∷ [])

@@ -1,4 +1,4 @@
-// Standard input and the two outputs, for the programs. A read that fails is not the end of the
+// Standard input, and what a program says of a refusal. A read that fails is not the end of the
 // input, so the two are told apart.
 ghost use mathlib.Core.Path.{_≡_};
 ghost use mathlib.Core.Bool.{true};
@@ -6,7 +6,7 @@ ghost use Rattle.io.specs.Counts.{Counts};
 use libc::STDERR_FILENO;
 use libc::STDIN_FILENO;
 
-// What reading answers: whether a read failed, and how many bytes came.
+// What reading answers: whether a read failed, and how many bytes came, 0 where one failed.
 pub struct Input {
     pub failed: bool,
     pub count: usize,
@@ -24,7 +24,7 @@ fn read_once(part: &mut [u8]) -> Input
 }
 
 // Reads standard input into the start of a buffer until the input ends, the buffer is full or a read
-// fails. Where a read failed nothing is counted, so that no part is taken for the whole.
+// fails. Where it answers that a read failed it counts nothing: no part may be taken for the whole.
 pub fn read_input(buffer: &mut [u8]) -> Input
     ensures { λ r. ⌜ (r .failed ≡ true → r .count ≡ 0) × Counts (r .count) (now (buffer .exit)) ⌝ }
 {

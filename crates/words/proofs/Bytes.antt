@@ -81,7 +81,7 @@ reading-all bs at k j x h g =
     rw (e, f) at (g .is)
 
 -- a field of k bytes is below 256 ^ k
-pub field-below : (k at : ℕ) (bs : List ℕ) → ((i : ℕ) → getD bs i 0 < 256) → field k at bs < 256 ^ k
+pub field-below : (k at : ℕ) (bs : List ℕ) → Bytes bs → field k at bs < 256 ^ k
 field-below k at bs h = number-below k (drop at bs) (λ i. rw (getD-drop at bs i 0) (h (at + i)))
 
 -- of j + k bytes with the first j shifted out, the last k are left

@@ -1,6 +1,6 @@
 -- Comparing, copying and moving bytes, one a turn.
 use mathlib.Core.Path.{_≡_, refl, sym, ap, _∙_}
-use mathlib.Core.Bool.{true, false, _&&_}
+use mathlib.Core.Bool.{true, false, _&&_, false≢true}
 use mathlib.Core.List.{List, [], _∷_}
 use Prim.Native.Nat.{ℕ, suc, _+_, _-_, _≤_, _<_}
 use native.Mathlib.Omega.{arith}
@@ -49,10 +49,10 @@ compare-ends a b i h g =
 -- the test means what it says
 pub same-equal : (a b : List ℕ) → sameBytes a b ≡ true → a ≡ b
 same-equal [] [] e = refl
-same-equal [] (y ∷ b) e = absurd (let z : _≡_ {A = ℕ} 0 1 = cc in omega arith)
-same-equal (x ∷ a) [] e = absurd (let z : _≡_ {A = ℕ} 0 1 = cc in omega arith)
+same-equal [] (y ∷ b) e = absurd (false≢true e)
+same-equal (x ∷ a) [] e = absurd (false≢true e)
 same-equal (x ∷ a) (y ∷ b) e =
-    either (eqb x y) (λ f. cc (eqb-true x y f, same-equal a b (rw f at e))) (λ f. absurd (let q = rw f at e in let z : _≡_ {A = ℕ} 0 1 = cc in omega arith))
+    either (eqb x y) (λ f. cc (eqb-true x y f, same-equal a b (rw f at e))) (λ f. absurd (false≢true (rw f at e)))
 
 pub equal-same : (a : List ℕ) → sameBytes a a ≡ true
 equal-same [] = refl

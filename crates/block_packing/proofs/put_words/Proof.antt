@@ -1,13 +1,14 @@
 use Prim.Native.Nat.{_-_, _/_, _≤_}
 use native.Mathlib.Omega.{arith}
 use borrow.Author.Needs.{needs}
+use Rattle.block_staging.specs.Inside.{mostStaged}
 use Rattle.block_packing.proofs.PutLoop.{Going, going-starts, going-staged, going-room, going-on, going-rests, going-ends}
 use Rattle.block_packing.proofs.put_words.Statement.{statement}
 use Rattle.block_packing.proofs.put_words.Tie as tie
 
 abbrev Inv-loop : tie.InvT-loop
 Inv-loop words fcm₀ dfcm₀ out₀ stage₀ n at₀ staged₀ carry₀ k₀ fcm dfcm out stage at staged carry k =
-    (staged ≤ 496) × Going words fcm₀ dfcm₀ out₀ fcm dfcm out stage at staged carry k
+    (staged ≤ mostStaged) × Going words fcm₀ dfcm₀ out₀ fcm dfcm out stage at staged carry k
 
 abbrev μ-loop : tie.MeasureT-loop
 μ-loop words fcm₀ dfcm₀ out₀ stage₀ n at₀ staged₀ carry₀ k₀ fcm dfcm out stage at staged carry k = n / 2 - k
