@@ -2,6 +2,8 @@
  *
  *     exam_on_disk FOLDER
  *
+ * It writes 20240117.kept, changed.kept and cut.kept in that folder, over what stands there under these names.
+ *
  * The library works in memory, and disks are your part. This is one way to do that part, in C99 and POSIX:
  *
  *   A kept exam is one file: 8 bytes of hash, then the exam file. With the hash in a file of its own, two names
@@ -9,7 +11,7 @@
  *   be refused. (To list a kept exam: tail -c +9 NAME | target/bin/lister)
  *
  *   It is written under a new name, flushed, and renamed over the old name. So a reader sees the old exam or
- *   the new one and never a part. What a crash leaves under the new name is overwritten the next time. Two
+ *   the new one and never a part. What a crash leaves under the new name is removed the next time. Two
  *   programs that store one exam at the same time need a lock of their own.
  */
 #define _POSIX_C_SOURCE 200809L
@@ -55,9 +57,9 @@ static const char *what_to_do(uint32_t number)
     case COIL_DONE:
         return "done";
     case COIL_BAD_TABLES:
-        return "the tables are not of the file's size: lend two of 2^t words, with the t that the file tells";
+        return "not tables of the file's size: lend two of your 2^t words; where you did, damaged: take the copy";
     case COIL_TOO_MANY_WORDS:
-        return "more than 65,536 words: split the map over two slots; at a fetch: damaged, take the copy";
+        return "more than 65,536 words: split the map over several slots; at a fetch: damaged, take the copy";
     case COIL_NO_ROOM:
         return "lend more room; where the file nears 16,777,216 bytes, begin another file";
     case COIL_TOO_SHORT:
@@ -69,11 +71,11 @@ static const char *what_to_do(uint32_t number)
     case COIL_BAD_DIRECTORY:
         return "the file is damaged: take the copy";
     case COIL_WRONG_EXAM:
-        return "not this exam's file: do not use it, look up the exam number (0 is none)";
+        return "not this exam's file, or damaged: do not use it, look up the exam number (0 is none)";
     case COIL_NO_SUCH_SLOT:
-        return "nothing is stored under this slot: look up the slot number";
+        return "no such slot: look up the slot number; where it was stored, the file is damaged: take the copy";
     case COIL_SLOT_NOT_ABOVE:
-        return "a slot is written once, and slots ascend: append under a number above the last";
+        return "a slot is written once, and slots ascend: append above the last, or begin another file";
     case COIL_FILE_FULL:
         return "the file has its 1,024 maps: begin another file";
     default:
@@ -97,7 +99,8 @@ static void must_be_true(int true_here, const char *what)
     }
 }
 
-/* Where the system refuses, the exam on disk is still the old one, whole. */
+/* Where the system refuses, the exam on disk is the old one or, where only the last flush failed, the new one: never
+ * a part. */
 static void system_must(int did, const char *what)
 {
     if (!did) {
@@ -143,7 +146,9 @@ static void write_all(int to, const uint8_t *bytes, size_t length)
  * alone. The last flush is the folder's: without it a crash may undo the renaming. */
 static void replace(const char *name, size_t length)
 {
-    int to = openat(folder, NEW_NAME, O_WRONLY | O_CREAT | O_TRUNC, 0600);
+    int to;
+    system_must(unlinkat(folder, NEW_NAME, 0) == 0 || errno == ENOENT, "remove " NEW_NAME);
+    to = openat(folder, NEW_NAME, O_WRONLY | O_CREAT | O_EXCL, 0600);
     system_must(to >= 0, "open " NEW_NAME);
     write_all(to, kept, length);
     system_must(fsync(to) == 0, "flush " NEW_NAME);
@@ -186,7 +191,7 @@ static size_t load(const char *name)
         printf("    %s is longer than any exam stored here: do not use it\n", name);
         return 0;
     }
-    if (length < HASH_BYTES || number_at(kept, HASH_BYTES) != hash_of(file, length - HASH_BYTES)) {
+    if (length <= HASH_BYTES || number_at(kept, HASH_BYTES) != hash_of(file, length - HASH_BYTES)) {
         printf("    the hash refuses %s: do not use it, take the copy\n", name);
         return 0;
     }

@@ -16,7 +16,7 @@
  *
  * Every pointer is lent for the time of the call only. The library allocates nothing, prints nothing
  * and keeps nothing between calls: no pointer, no table, no setting. It takes less than 1,024 bytes of
- * stack. It has no global state. Two threads may call at once as long as neither writes into memory
+ * stack (beside what a dynamic linker takes once, to find memset and memcpy). It has no global state. Two threads may call at once as long as neither writes into memory
  * that the other uses.
  *
  * The C side is checked by nothing. These four rules are yours to keep, and breaking one is undefined:
@@ -52,12 +52,13 @@
  *   refuses tables of another size.
  *
  *   There is no checksum. Damage that breaks a rule is refused. Damage that breaks none is believed. It
- *   can be in the residual bytes, the codes or the word count of a block, or in the file's t: then other
- *   words come out. It can be in a slot number or in the exam number: then the words answer to another
- *   slot or exam. Where storage can damage bytes, keep a checksum of your own.
+ *   can be in the residual bytes, the codes or the word count of a block: then other words come out. It can
+ *   be in the file's t: then coil_fetch refuses tables of the right size, and one who takes t from the file gets
+ *   other words. It can be in a slot number or in the exam number: then the words answer to another slot or
+ *   exam. Where storage can damage bytes, keep a checksum of your own.
  *
- *   A file that these calls made and that was cut short hardly ever opens, but it may: where a block's own
- *   bytes happen to end like a file. Then coil_fetch refuses at least one of its slots. Of a file that
+ *   A file that these calls made and that was cut short hardly ever opens, but it may: where what is left
+ *   happens to end like a file. Then coil_fetch refuses at least one of its slots. Of a file that
  *   another program made, a first part may open with nothing refused. A block that was cut short is always
  *   refused. docs/CUT_FILES.md has the details.
  */
