@@ -4,6 +4,7 @@ use mathlib.Core.List.{List, [], _∷_, _++_, List·Mem, mem-cast}
 use Prim.Native.Nat.{ℕ, _+_, _^_, _≤_, _<_}
 use lib.ListN.{length, take, drop}
 use Rattle.words.specs.Words.{Words}
+use Rattle.words.specs.Bytes.{Bytes}
 use Rattle.answers.specs.Answers.{over}
 use Rattle.answers.proofs.Checks.{afterwards-new}
 use Rattle.block_rules.specs.declared.Packed.{Packed}
@@ -16,7 +17,7 @@ use Rattle.exam_rules.specs.Maps.{Map}
 use Rattle.exam_rules.specs.declared.Located.{Located}
 use Rattle.exam_rules.specs.declared.Made.{Made}
 use Rattle.exam_rules.proofs.Kept.{found-part}
-use Rattle.exams.proofs.Claims.{MadeOf, created, grown, made-opens, made-fetches, cut-is-never-whole, create-numbers, open-numbers, locate-numbers, fetch-numbers, append-numbers, create-one-answer, fetch-one-answer, append-one-answer, fetch-forgets, append-forgets, refused-create-changes-nothing, refused-locate-tells-nothing, refused-fetch-changes-nothing, refused-append-changes-nothing, own-exam, located-has, fetch-accepts, append-accepts}
+use Rattle.exams.proofs.Claims.{MadeOf, created, grown, made-opens, made-fetches, append-fetches, cut-is-never-whole, create-numbers, open-numbers, locate-numbers, fetch-numbers, append-numbers, create-one-answer, fetch-one-answer, append-one-answer, fetch-forgets, append-forgets, refused-create-changes-nothing, refused-locate-tells-nothing, refused-fetch-changes-nothing, refused-append-changes-nothing, own-exam, located-has, fetch-accepts, append-accepts}
 use Rattle.coil.specs.Calls.{CoilOpens, CoilChecks, CoilPacks, CoilUnpacks, CoilCreates, CoilFinds, CoilFetches, CoilAppends}
 
 -- ---- there and back
@@ -28,6 +29,15 @@ pub coil-round-trip : {words fcm dfcm out f' d' out' f₂ d₂ room f₂' d₂' 
     → (s ≡ 0) × (n ≡ length words) × (room' ≡ over words room)
 coil-round-trip h p e q lf ld enough =
     let a = round-trip h p e q lf ld enough in
+    (ap (λ (x : Unpacked). x .number) (a .0), ap (λ (x : Unpacked). x .count) (a .0), a .1)
+
+-- What coil_append stored coil_fetch gives back, bit for bit: from any file that opens, whoever made it, with tables of the same size whatever they hold.
+pub coil-append-fetches : {b : List ℕ} {l exam slot : ℕ} {words fcm dfcm bench b' f' d' n' f₂ d₂ room f₂' d₂' room' : List ℕ} {r m s n : ℕ} → Bytes b → slot < 2 ^ 32 → Words words
+    → CoilAppends b l exam slot words fcm dfcm bench r b' f' d' n' m → r ≡ 0
+    → CoilFetches b' m exam slot f₂ d₂ room s f₂' d₂' room' n → length f₂ ≡ length fcm → length d₂ ≡ length dfcm → length words ≤ length room
+    → (s ≡ 0) × (n ≡ length words) × (room' ≡ over words room)
+coil-append-fetches h w v c e q lf ld enough =
+    let a = append-fetches h w v c e q lf ld enough in
     (ap (λ (x : Unpacked). x .number) (a .0), ap (λ (x : Unpacked). x .count) (a .0), a .1)
 
 -- A file that coil_create made is one made by create and appends, with no map yet. (`copied` of MadeOf: so is every copy of such a file.)

@@ -5,7 +5,7 @@ use Prim.Native.Nat.{ℕ, zero, suc, _+_, _^_, _≤_, _<_}
 use native.Mathlib.Omega.{arith}
 use lib.Dec.{eqb}
 use lib.ListN.{length, getD, take, drop, length-append, length-drop, List·getD-append}
-use lib.Seq.{take-append-seam, length-take-le}
+use lib.Seq.{take-append-seam, length-take-le, getD-append-seam, drop-append-seam, take-length}
 use Rattle.words.specs.Bytes.{Bytes}
 use Rattle.words.proofs.Each.{Each, none, more}
 use Rattle.words.proofs.Tests.{either}
@@ -17,7 +17,7 @@ use Rattle.exam_rules.specs.Reading.{trailerAt, directoryAt, entriesIn, 
 use Rattle.exam_rules.specs.Numbers.{directoryNumber, openInNumber, findNumber, blockIn}
 use Rattle.exam_rules.specs.Calls.{Appends}
 use Rattle.exam_rules.specs.declared.Made.{Made}
-use Rattle.exam_rules.proofs.Directory.{block-within, block-long}
+use Rattle.exam_rules.proofs.Directory.{block-within, block-long, index-of-entry}
 use Rattle.exam_rules.proofs.Opens.{Opens, OpensIn, opens-in, trails-ends, body-long, entries-many, parts-long}
 use Rattle.exam_rules.proofs.Parts.{part-of-first}
 use Rattle.exam_rules.proofs.Changes.{changes-number}
@@ -140,4 +140,20 @@ module _ {b : List ℕ} {l exam slot : ℕ} {words fcm dfcm bench b' fcm' dfcm' 
         find-passes b' (r .length) exam s more-opens j,
         rw p k,
         rw (p, k) (block-kept old slot s blk (opened-old .is .directory) i),
+      )
+
+  -- the new slot is found, with the new block
+  pub slot-new : (findNumber b' (r .length) exam slot ≡ 0) × (blockIn b' (r .length) slot ≡ block (old .t) words)
+  unfolding blockIn blockOf entryOf
+  slot-new =
+      let blk = block (old .t) words in
+      let x = entry slot (length (old .body)) (length blk) in
+      let f = appended old slot blk in
+      let p = holds-parts more-holds in
+      let n = length (old .entries) in
+      let at : (d : Entry) → getD (f .entries) n d ≡ x = λ d. getD-append-seam (old .entries) x [] d in
+      let below : n < length (f .entries) = omega (arith, length-append (old .entries) (x ∷ [])) in
+      let i : indexOf slot (f .entries) ≡ n = rw (at x) at (index-of-entry f n x (more-holds .good .directory) below) in (
+        find-passes b' (r .length) exam slot more-opens (rw (p, i) below),
+        rw (p, i, at _, drop-append-seam) (take-length blk),
       )

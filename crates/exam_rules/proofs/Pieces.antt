@@ -77,6 +77,23 @@ pub record ReadsAs (t : ℕ) (b words : List ℕ) : Type 0 where
   pub many : count b ≡ length words
   pub reads : wordsIn t b ≡ words
 
+-- fetching a slot whose block reads as words answers their count and leaves them
+pub block-fetched : {b : List ℕ} {l exam slot : ℕ} (t : ℕ) (blk : List ℕ) {words fcm dfcm room fcm' dfcm' room' : List ℕ} {r : Unpacked}
+    → findNumber b l exam slot ≡ 0 → blockIn b l slot ≡ blk → fileIn (take l b) .t ≡ t → ReadsAs t blk words → Fetches b l exam slot fcm dfcm room r fcm' dfcm' room'
+    → length fcm ≡ 2 ^ t → length dfcm ≡ 2 ^ t → length words ≤ length room → (r ≡ record { number = 0; count = length words }) × (room' ≡ over words room)
+unfolding unpacked
+block-fetched {b} {l} {exam} {slot} t blk {room = room} found is t-is s c lf ld enough =
+    let z =
+    takes-fetch b l exam slot _ _ (length room)
+    (record {
+      finds = find-takes b l exam slot found;
+      fcmLong = rw t-is lf;
+      dfcmLong = ld ∙ sym lf;
+      whole = rw is (s .whole);
+      enough = rw (is, s .many) enough;
+    }) in
+    (c .answer ∙ unpacked-of _ _ _ z (afterwards-new _ _ 0 z ∙ rw is (s .many)), c .wordsLeft ∙ afterwards-new _ _ room z ∙ rw (is, t-is, s .reads))
+
 module _ {b : List ℕ} {l exam t : ℕ} {p : Piece} (h : HoldsPiece b l exam t p) where
   abbrev file : File
   file = fileOfPieces exam t (h .first ++ p ∷ h .rest)
@@ -103,19 +120,6 @@ module _ {b : List ℕ} {l exam t : ℕ} {p : Piece} (h : HoldsPiece b l exam t 
   unfolding blockIn blockOf entryOf
   piece-block = rw (holds-parts (h .holds), slot-index, entry-at _, blocks-append (h .first) (p ∷ h .rest), drop-append-seam) (take-append-seam (p .block) (blocksOf (h .rest)))
 
-  -- fetching it answers the words' count and leaves the words
-  pub piece-fetched : {words fcm dfcm room fcm' dfcm' room' : List ℕ} {r : Unpacked} → ReadsAs t (p .block) words → Fetches b l exam (p .slot) fcm dfcm room r fcm' dfcm' room'
-      → length fcm ≡ 2 ^ t → length dfcm ≡ 2 ^ t → length words ≤ length room → (r ≡ record { number = 0; count = length words }) × (room' ≡ over words room)
-  unfolding unpacked
-  piece-fetched {room = room} s c lf ld enough =
-      let z =
-      takes-fetch b l exam (p .slot) _ _ (length room)
-      (record {
-        finds = find-takes b l exam (p .slot) piece-found;
-        fcmLong = rw (holds-parts (h .holds)) lf;
-        dfcmLong = ld ∙ sym lf;
-        whole = rw piece-block (s .whole);
-        enough = rw (piece-block, s .many) enough;
-      }) in
-      let t-is : fileIn (take l b) .t ≡ t = ap (λ (x : File). x .t) (holds-parts (h .holds)) in
-      (c .answer ∙ unpacked-of _ _ _ z (afterwards-new _ _ 0 z ∙ rw piece-block (s .many)), c .wordsLeft ∙ afterwards-new _ _ room z ∙ rw (piece-block, t-is, s .reads))
+  -- the file's t
+  pub piece-t : fileIn (take l b) .t ≡ t
+  piece-t = ap (λ (x : File). x .t) (holds-parts (h .holds))

@@ -28,10 +28,10 @@ use Rattle.exam_rules.proofs.Changes.{change-one-answer, changes-number, change
 use Rattle.exam_rules.proofs.Accept.{OpenTakes, open-takes, takes-open, FindTakes, find-takes, takes-find, FetchTakes, fetch-takes, takes-fetch, takes-create, AppendTakes, append-takes, takes-append, opened-number, opened-done, fetches-number, CreateTakes, create-takes}
 use Rattle.exam_rules.proofs.Answered.{open-in-one-of, find-one-of, fetch-one-of, create-one-of, append-one-of}
 use Rattle.exam_rules.proofs.Holds.{Holds, holds-length, holds-parts, holds-opens, copied-holds}
-use Rattle.exam_rules.proofs.Pieces.{length-pieces, created-pieces, appended-pieces, piece-found, piece-block, piece-fetched}
+use Rattle.exam_rules.proofs.Pieces.{length-pieces, created-pieces, appended-pieces, block-fetched, piece-found, piece-block, piece-t}
 use Rattle.exam_rules.proofs.Maps.{Fit, map-reads, maps-whole, maps-piece}
 use Rattle.exam_rules.proofs.Cut.{never-all-whole}
-use Rattle.exam_rules.proofs.Kept.{found-long, found-size, found-within, found-part, more-holds, more-opens, slot-kept}
+use Rattle.exam_rules.proofs.Kept.{found-long, found-size, found-within, found-part, more-holds, more-opens, slot-kept, slot-new}
 
 -- ---- no second answer
 
@@ -226,7 +226,8 @@ pub made-fetches : (first : List Map) (m : Map) (rest : List Map) {exam t : ℕ}
     → length fcm ≡ 2 ^ t → length dfcm ≡ 2 ^ t → length (m .words) ≤ length room
     → (r ≡ record { number = 0; count = length (m .words) }) × (room' ≡ over (m .words) room)
 made-fetches first m rest {exam} {t} k c lf ld enough =
-    piece-fetched (maps-piece exam t first m rest (made-holds k)) (map-reads t m (each-at first m rest (made-fit k))) c lf ld enough
+    let h = maps-piece exam t first m rest (made-holds k) in
+    block-fetched t (block t (m .words)) (piece-found h) (piece-block h) (piece-t h) (map-reads t m (each-at first m rest (made-fit k))) c lf ld enough
 
 -- ---- a refusal leaves everything as it was
 
@@ -314,6 +315,18 @@ pub append-keeps-slots : {b : List ℕ} {l exam slot : ℕ} {words fcm dfcm benc
     → Appends b l exam slot words fcm dfcm bench r b' fcm' dfcm' bench' → r .number ≡ 0 → (s : ℕ) → findNumber b l exam s ≡ 0
     → (findNumber b' (r .length) exam s ≡ 0) × (entryOf s (fileIn (take (r .length) b')) ≡ entryOf s (fileIn (take l b))) × (blockIn b' (r .length) s ≡ blockIn b l s)
 append-keeps-slots h w c e s z = slot-kept h w c e s z
+
+-- And what was appended is fetched, word for word: from any file that opens, whoever made it, with tables of the same size.
+pub append-fetches : {b : List ℕ} {l exam slot : ℕ} {words fcm dfcm bench b' fcm' dfcm' bench' f₂ d₂ room f₂' d₂' room' : List ℕ} {r : Made} {s : Unpacked} → Bytes b → slot < 2 ^ 32 → Words words
+    → Appends b l exam slot words fcm dfcm bench r b' fcm' dfcm' bench' → r .number ≡ 0
+    → Fetches b' (r .length) exam slot f₂ d₂ room s f₂' d₂' room' → length f₂ ≡ length fcm → length d₂ ≡ length dfcm → length words ≤ length room
+    → (s ≡ record { number = 0; count = length words }) × (room' ≡ over words room)
+append-fetches {b} {l} {exam} {slot} {words} h w v c e q lf ld enough =
+    let t = fileIn (take l b) .t in
+    let k = append-accepts c .0 e in
+    let n = slot-new h w c e in
+    let reads = map-reads t (record { slot = slot; words = words }) (record { few = k .fewWords; wide = v }) in
+    block-fetched t (block t words) (n .0) (n .1) (ap (λ (f : File). f .t) (holds-parts (more-holds h w c e))) reads q (lf ∙ k .fcmLong) (ld ∙ k .dfcmLong ∙ k .fcmLong) enough
 
 -- ---- nothing cut short
 
