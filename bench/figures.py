@@ -34,8 +34,11 @@ def show(name, cells):
 
 def main():
     rows, checks = read_lines(sys.argv[1]), read_checks(sys.argv[2])
-    print("Times to expert C's, 65,536 words, t = 10; below 1 is faster than expert C:")
+    print("The store's nanoseconds a word, 65,536 words, t = 10:")
     show("", INPUTS)
+    for call in ("pack", "unpack"):
+        show(call, [f"{float(rows[i, 'store'][call + '_ns']) / float(WORDS):.2f}" for i in INPUTS])
+    print("Its times to those of expert C (bench/expert.c: the same rules in C, written for speed); below 1 is faster:")
     for call in ("pack", "unpack"):
         show(call, [ratio(rows, call + "_ns", (i, "store"), (i, "expert C")) for i in INPUTS])
     show("check", [checks[i] for i in INPUTS])

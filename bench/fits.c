@@ -1,6 +1,7 @@
-/* How many maps fit into one exam file: the table under "A real exam" in README.md, with t = 10.
+/* How many maps fit into one exam file: the table under "A real exam" in README.md, with t = 10; or, given a side
+ * from 1 to 1024, the same for maps of side by side complex values.
  *
- *     cc -O2 -Iinclude bench/fits.c target/staticlib/libcoil.a -lm -o target/fits && target/fits
+ *     cc -O2 -Iinclude bench/fits.c target/staticlib/libcoil.a -lm -o target/fits && target/fits [SIDE]
  *
  * Appends made maps until an append is refused, fetches each of them and compares. The maps are like the coil
  * input of inputs.c, which is coil 0 here; fifteen others stand around the body. Their last bits are those of the C
@@ -16,7 +17,7 @@
 #define T 10u
 #define EXAM UINT64_C(7)
 #define COILS 16u
-#define MOST_SIDE 256u
+#define MOST_SIDE 1024u
 #define PI 3.14159265358979323846
 
 static uint8_t file[COIL_MOST_FILE_BYTES];
@@ -67,36 +68,58 @@ static size_t append(size_t length, uint32_t slot, const uint64_t *words, size_t
     return new_length;
 }
 
-/* Fills a file with maps of side by side values, each in so many slots. */
-static void fill(int air, unsigned side, unsigned slots)
+/* Appends one map, in as many slots as it needs, and answers the new length, or 0 where it has no room. */
+static size_t append_map(size_t length, uint32_t slot, size_t words)
 {
-    size_t n = 2 * (size_t)side * side / slots, worst = slots * (COIL_WORST(n) + 12);
+    for (size_t at = 0; at < words && length != 0; at += COIL_MOST_WORDS) {
+        size_t left = words - at;
+        length = append(length, slot++, map + at, left < COIL_MOST_WORDS ? left : COIL_MOST_WORDS);
+    }
+    return length;
+}
+
+/* Fills a file with maps of side by side values. */
+static void fill(int air, unsigned side)
+{
+    size_t words = 2 * (size_t)side * side, last = words % COIL_MOST_WORDS;
+    unsigned full = (unsigned)(words / COIL_MOST_WORDS), slots = full + (last != 0);
+    size_t worst = full * (COIL_WORST(COIL_MOST_WORDS) + 12) + (last != 0 ? COIL_WORST(last) + 12 : 0);
+    size_t by_bytes = (COIL_MOST_FILE_BYTES - COIL_EMPTY_FILE) / worst, by_slots = COIL_MOST_ENTRIES / slots;
     size_t length, least = (size_t)-1, most = 0;
     unsigned maps = 0;
     if (coil_create(file, sizeof file, EXAM, T, &length) != COIL_DONE)
         exit(1);
     for (;; maps++) {
-        size_t end = length;
+        size_t end;
         make_map(air, maps, side);
-        for (unsigned part = 0; part < slots && end != 0; part++)
-            end = append(end, maps * slots + part, map + part * n, n);
+        end = append_map(length, maps * slots, words);
         if (end == 0)
             break;
         least = end - length < least ? end - length : least;
         most = end - length > most ? end - length : most;
         length = end;
     }
-    printf("%3u by %3u, %s: %zu words, %u slots; at worst %zu bytes a map, %zu maps; measured %zu to %zu, %u maps\n",
-           side, side, air ? "80 % air" : "no air", slots * n, slots, worst,
-           (size_t)(COIL_MOST_FILE_BYTES - COIL_EMPTY_FILE) / worst, least, most, maps);
+    printf("%u by %u, %s: %zu words, slots %u; at worst %zu bytes a map, %zu maps; ", side, side,
+           air ? "80 % air" : "no air", words, slots, worst, by_bytes < by_slots ? by_bytes : by_slots);
+    if (maps == 0)
+        printf("measured: none\n");
+    else
+        printf("measured %zu to %zu bytes, %u maps\n", least, most, maps);
 }
 
-int main(void)
+int main(int argc, char **argv)
 {
-    for (int air = 1; air >= 0; air--) {
-        fill(air, 128, 1);
-        fill(air, 181, 1);
-        fill(air, 256, 2);
+    unsigned sides[] = { 128, 181, 256 }, many = 3;
+    if (argc > 1) {
+        sides[0] = (unsigned)strtoul(argv[1], NULL, 10);
+        many = 1;
     }
+    if (argc > 2 || sides[0] < 1 || sides[0] > MOST_SIDE) {
+        fprintf(stderr, "usage: fits [SIDE], a side from 1 to %u\n", MOST_SIDE);
+        return 2;
+    }
+    for (int air = 1; air >= 0; air--)
+        for (unsigned i = 0; i < many; i++)
+            fill(air, sides[i]);
     return 0;
 }

@@ -57,7 +57,7 @@ static const char *what_to_do(uint32_t number)
     case COIL_DONE:
         return "done";
     case COIL_BAD_TABLES:
-        return "not tables of the file's size: lend two of your 2^t words; where you did, damaged: take the copy";
+        return "the tables are not of 2^t words: lend such; if they are, the file is damaged: take the copy";
     case COIL_TOO_MANY_WORDS:
         return "more than 65,536 words: split the map over several slots; at a fetch: damaged, take the copy";
     case COIL_NO_ROOM:
@@ -71,7 +71,7 @@ static const char *what_to_do(uint32_t number)
     case COIL_BAD_DIRECTORY:
         return "the file is damaged: take the copy";
     case COIL_WRONG_EXAM:
-        return "not this exam's file, or damaged: do not use it, look up the exam number (0 is none)";
+        return "not this exam's file, or damaged: do not use it; look up the exam number, which is never 0";
     case COIL_NO_SUCH_SLOT:
         return "no such slot: look up the slot number; where it was stored, the file is damaged: take the copy";
     case COIL_SLOT_NOT_ABOVE:

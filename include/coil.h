@@ -16,8 +16,8 @@
  *
  * Every pointer is lent for the time of the call only. The library allocates nothing, prints nothing
  * and keeps nothing between calls: no pointer, no table, no setting. It takes less than 1,024 bytes of
- * stack (beside what a dynamic linker takes once, to find memset and memcpy). It has no global state. Two threads may call at once as long as neither writes into memory
- * that the other uses.
+ * stack. (A dynamic linker takes more, once, to find memset and memcpy.) It has no global state. Two threads
+ * may call at once as long as neither writes into memory that the other uses.
  *
  * The C side is checked by nothing. These four rules are yours to keep, and breaking one is undefined:
  *
@@ -53,8 +53,8 @@
  *
  *   There is no checksum. Damage that breaks a rule is refused. Damage that breaks none is believed. It
  *   can be in the residual bytes, the codes or the word count of a block: then other words come out. It can
- *   be in the file's t: then coil_fetch refuses tables of the right size, and one who takes t from the file gets
- *   other words. It can be in a slot number or in the exam number: then the words answer to another slot or
+ *   be in the file's t: then coil_fetch refuses tables of the right size, and gives other words if you take t
+ *   from the file. It can be in a slot number or in the exam number: then the words answer to another slot or
  *   exam. Where storage can damage bytes, keep a checksum of your own.
  *
  *   A file that these calls made and that was cut short hardly ever opens, but it may: where what is left

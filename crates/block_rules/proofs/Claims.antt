@@ -23,7 +23,7 @@ use Rattle.block_rules.proofs.Runs.{block-closer, closer-at-most}
 
 -- ---- the blocks worked by hand
 
--- Every case marked P comes out as it was worked by hand.
+-- Every case of this list comes out as it was worked by hand.
 pub worked-by-hand : map made cases ≡ map worked cases
 unfolding block arranged body residualBytes codedWord chosen codedBy written lowThree dfcmChosen fcmResidual dfcmResidual learn nextFcmHash nextDfcmHash difference fcmPrediction dfcmPrediction cleared checked blockNumber fillerStands lastHalf countedCodes unless firstFailure afterwards add64 sub64 shiftedLeft shiftedRight lowBits xor zeroBytes leadingZeros
 worked-by-hand = refl

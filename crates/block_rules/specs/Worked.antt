@@ -1,4 +1,4 @@
--- The blocks worked by hand and marked P, as one list.
+-- The blocks worked by hand that the rules are to be proved to give, as one list.
 use Prim.Native.Nat.{ℕ}
 use mathlib.Core.List.{List, [], _∷_}
 use Rattle.block_rules.specs.Block.{block}

@@ -32,8 +32,8 @@ coil-round-trip h p e q lf ld enough =
     (ap (λ (x : Unpacked). x .number) (a .0), ap (λ (x : Unpacked). x .count) (a .0), a .1)
 
 -- What coil_append stored coil_fetch gives back, bit for bit: from any file that opens, whoever made it, with tables of the same size whatever they hold.
-pub coil-append-fetches : {b : List ℕ} {l exam slot : ℕ} {words fcm dfcm bench b' f' d' n' f₂ d₂ room f₂' d₂' room' : List ℕ} {r m s n : ℕ} → Bytes b → slot < 2 ^ 32 → Words words
-    → CoilAppends b l exam slot words fcm dfcm bench r b' f' d' n' m → r ≡ 0
+pub coil-append-fetches : {b : List ℕ} {l exam slot : ℕ} {words fcm dfcm bench b' f' d' bench' f₂ d₂ room f₂' d₂' room' : List ℕ} {r m s n : ℕ} → Bytes b → slot < 2 ^ 32 → Words words
+    → CoilAppends b l exam slot words fcm dfcm bench r b' f' d' bench' m → r ≡ 0
     → CoilFetches b' m exam slot f₂ d₂ room s f₂' d₂' room' n → length f₂ ≡ length fcm → length d₂ ≡ length dfcm → length words ≤ length room
     → (s ≡ 0) × (n ≡ length words) × (room' ≡ over words room)
 coil-append-fetches h w v c e q lf ld enough =
@@ -45,8 +45,8 @@ pub coil-create-makes : {b b' : List ℕ} {exam t r l : ℕ} → exam < 2 ^ 64 �
 coil-create-makes w c e = created w c e
 
 -- With coil_append it has one map more.
-pub coil-append-makes : {exam t : ℕ} {ms : List Map} {b : List ℕ} {l slot : ℕ} {words fcm dfcm bench b' f' d' n' : List ℕ} {r m : ℕ}
-    → MadeOf exam t ms b l → slot < 2 ^ 32 → Words words → CoilAppends b l exam slot words fcm dfcm bench r b' f' d' n' m → r ≡ 0
+pub coil-append-makes : {exam t : ℕ} {ms : List Map} {b : List ℕ} {l slot : ℕ} {words fcm dfcm bench b' f' d' bench' : List ℕ} {r m : ℕ}
+    → MadeOf exam t ms b l → slot < 2 ^ 32 → Words words → CoilAppends b l exam slot words fcm dfcm bench r b' f' d' bench' m → r ≡ 0
     → MadeOf exam t (ms ++ (record { slot = slot; words = words } ∷ [])) b' m
 coil-append-makes k s w c e = grown k s w c e
 
@@ -107,7 +107,7 @@ pub coil-fetch-numbers : {b : List ℕ} {l exam slot : ℕ} {fcm dfcm words f' d
 coil-fetch-numbers c = fetch-numbers c
 
 -- coil_append answers 0, one of coil_open's numbers, 12, 11, 1, 2 or 3.
-pub coil-append-numbers : {b : List ℕ} {l exam slot : ℕ} {words fcm dfcm bench b' f' d' n' : List ℕ} {r m : ℕ} → CoilAppends b l exam slot words fcm dfcm bench r b' f' d' n' m
+pub coil-append-numbers : {b : List ℕ} {l exam slot : ℕ} {words fcm dfcm bench b' f' d' bench' : List ℕ} {r m : ℕ} → CoilAppends b l exam slot words fcm dfcm bench r b' f' d' bench' m
     → List·Mem r (0 ∷ 4 ∷ 7 ∷ 8 ∷ 9 ∷ 12 ∷ 11 ∷ 1 ∷ 2 ∷ 3 ∷ [])
 coil-append-numbers c = append-numbers c
 
@@ -188,8 +188,8 @@ pub coil-refused-fetch : {b : List ℕ} {l exam slot : ℕ} {fcm dfcm words f' d
 coil-refused-fetch c h = refused-fetch-changes-nothing c h
 
 -- A refused coil_append.
-pub coil-refused-append : {b : List ℕ} {l exam slot : ℕ} {words fcm dfcm bench b' f' d' n' : List ℕ} {r m : ℕ} → CoilAppends b l exam slot words fcm dfcm bench r b' f' d' n' m → (r ≡ 0 → ⊥)
-    → (m ≡ 0) × (b' ≡ b) × (f' ≡ fcm) × (d' ≡ dfcm) × (n' ≡ bench)
+pub coil-refused-append : {b : List ℕ} {l exam slot : ℕ} {words fcm dfcm bench b' f' d' bench' : List ℕ} {r m : ℕ} → CoilAppends b l exam slot words fcm dfcm bench r b' f' d' bench' m → (r ≡ 0 → ⊥)
+    → (m ≡ 0) × (b' ≡ b) × (f' ≡ fcm) × (d' ≡ dfcm) × (bench' ≡ bench)
 coil-refused-append c h = refused-append-changes-nothing c h
 
 -- ---- what the tables held before plays no part
@@ -244,6 +244,6 @@ pub coil-fetch-own-exam : {b : List ℕ} {l exam slot : ℕ} {fcm dfcm words f' 
 coil-fetch-own-exam c e = fetch-accepts c .0 e .finds .opens .own
 
 -- Where coil_append answers 0, the exam number in the file is the one asked for.
-pub coil-append-own-exam : {b : List ℕ} {l exam slot : ℕ} {words fcm dfcm bench b' f' d' n' : List ℕ} {r m : ℕ} → CoilAppends b l exam slot words fcm dfcm bench r b' f' d' n' m → r ≡ 0
+pub coil-append-own-exam : {b : List ℕ} {l exam slot : ℕ} {words fcm dfcm bench b' f' d' bench' : List ℕ} {r m : ℕ} → CoilAppends b l exam slot words fcm dfcm bench r b' f' d' bench' m → r ≡ 0
     → examIn (take l b) ≡ exam
 coil-append-own-exam c e = append-accepts c .0 e .opens .own

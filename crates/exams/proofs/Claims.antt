@@ -101,7 +101,7 @@ pub create-accepts : (exam t : ℕ) {b b' : List ℕ} {r : Made} → Creates b e
 create-accepts exam t {b} c = ((λ e. create-takes exam t (length b) (sym (changes-number c) ∙ e)), (λ k. changes-number c ∙ takes-create exam t (length b) k))
 
 -- Append answers 0 just where it has what it needs.
-pub append-accepts : {b : List ℕ} {l exam slot : ℕ} {words fcm dfcm bench b' f' d' n' : List ℕ} {r : Made} → Appends b l exam slot words fcm dfcm bench r b' f' d' n'
+pub append-accepts : {b : List ℕ} {l exam slot : ℕ} {words fcm dfcm bench b' f' d' bench' : List ℕ} {r : Made} → Appends b l exam slot words fcm dfcm bench r b' f' d' bench'
     → (r .number ≡ 0) ↔ AppendTakes b l exam slot (length words) (length fcm) (length dfcm) (length bench)
 append-accepts {words} {fcm} {dfcm} {bench} c = (
   (λ e. append-takes _ _ _ _ words fcm dfcm bench (sym (changes-number (c .file)) ∙ e)),
@@ -133,7 +133,7 @@ pub fetch-numbers : {b : List ℕ} {l exam slot : ℕ} {fcm dfcm words f' d' w' 
 fetch-numbers c = mem-cast (fetches-number c) (fetch-one-of _ _ _ _ _ _ _)
 
 -- Append answers 0, one of open's numbers, 12, 11, 1, 2 or 3.
-pub append-numbers : {b : List ℕ} {l exam slot : ℕ} {words fcm dfcm bench b' f' d' n' : List ℕ} {r : Made} → Appends b l exam slot words fcm dfcm bench r b' f' d' n'
+pub append-numbers : {b : List ℕ} {l exam slot : ℕ} {words fcm dfcm bench b' f' d' bench' : List ℕ} {r : Made} → Appends b l exam slot words fcm dfcm bench r b' f' d' bench'
     → List·Mem (r .number) (0 ∷ 4 ∷ 7 ∷ 8 ∷ 9 ∷ 12 ∷ 11 ∷ 1 ∷ 2 ∷ 3 ∷ [])
 append-numbers {b} {l} {exam} {slot} {words} {fcm} {dfcm} {bench} c = mem-cast (changes-number (c .file)) (append-one-of b l exam slot words fcm dfcm bench)
 
@@ -291,8 +291,8 @@ refused-fetch-changes-nothing {b} {l} {exam} {slot} {fcm} {dfcm} {words} c h =
     )
 
 -- A refused append changes nothing.
-pub refused-append-changes-nothing : {b : List ℕ} {l exam slot : ℕ} {words fcm dfcm bench b' f' d' n' : List ℕ} {r : Made}
-    → Appends b l exam slot words fcm dfcm bench r b' f' d' n' → (r .number ≡ 0 → ⊥) → (r .length ≡ 0) × (b' ≡ b) × (f' ≡ fcm) × (d' ≡ dfcm) × (n' ≡ bench)
+pub refused-append-changes-nothing : {b : List ℕ} {l exam slot : ℕ} {words fcm dfcm bench b' f' d' bench' : List ℕ} {r : Made}
+    → Appends b l exam slot words fcm dfcm bench r b' f' d' bench' → (r .number ≡ 0 → ⊥) → (r .length ≡ 0) × (b' ≡ b) × (f' ≡ fcm) × (d' ≡ dfcm) × (bench' ≡ bench)
 refused-append-changes-nothing {b} {l} {exam} {slot} {words} {fcm} {dfcm} {bench} c h =
     let k : appendsNumber b l exam slot words fcm dfcm bench ≡ 0 → ⊥ = λ z. h (changes-number (c .file) ∙ z) in (
       changes-none (c .file) h,
@@ -339,8 +339,8 @@ pub fetched-is-whole : {b : List ℕ} {l exam slot : ℕ} {fcm dfcm words f' d' 
     → blockNumber (blockIn b l slot) ≡ 0
 fetched-is-whole c e = fetch-accepts c .0 e .whole
 
--- Cut a file made by create and appends anywhere, and let a buffer begin with what is left. Whatever number is asked, where it opens never are the blocks of
--- all slots that it then has whole; and fetch unpacks none that is not whole.
+-- Cut a file made by create and appends anywhere, and let a buffer begin with what is left. Whatever number is asked, where it opens the blocks of its slots
+-- are never all whole; and fetch unpacks none that is not whole.
 pub cut-is-never-whole : {exam t : ℕ} {ms : List Map} {b : List ℕ} {l : ℕ} → MadeOf exam t ms b l → (k : ℕ) → k < l → (c : List ℕ) → take k c ≡ take k b
     → (asked : ℕ) → openedNumber (opened c k asked) ≡ 0 → ((slot : ℕ) → findNumber c k asked slot ≡ 0 → blockNumber (blockIn c k slot) ≡ 0) → ⊥
 cut-is-never-whole {exam} {t} {ms} m k short c same asked e w =
