@@ -12,9 +12,9 @@ use Rattle.words.specs.Bytes.{number}
 use Rattle.words.proofs.Tests.{either}
 use Rattle.answers.proofs.Checks.{unless-passes, unless-fails, unless-holds, all-pass, fails-here, fails-later, none-fails, afterwards-new, afterwards-old}
 use Rattle.block_rules.specs.Block.{block, count, statedLength, residualsAt, countedCodes, lastHalf, residualLength}
-use Rattle.block_rules.specs.Calls.{packed, packsNumber, Packs, checked, unpacked, unpacksNumber, Unpacks}
+use Rattle.block_rules.specs.Calls.{packed, packsNumber, Packs, checked, unpacked, UnpacksWhere}
 use Rattle.block_rules.specs.Numbers.{packNumber, fillerStands, blockNumber, unpackNumber, tOf}
-use Rattle.block_rules.specs.Inside.{Packable, PacksAll, Counted, Unpackable, UnpacksAll, UnpacksWhere}
+use Rattle.block_rules.specs.Inside.{Packable, PacksAll, Counted, Unpackable, UnpacksAll}
 use Rattle.block_rules.specs.declared.Packed.{Packed}
 use Rattle.block_rules.specs.declared.Unpacked.{Unpacked}
 use Rattle.block_rules.proofs.Tables.{tables-sized, sized-tables}
@@ -198,9 +198,6 @@ where-done k t n b f d ws f' d' ws' z p =
       wordsLeft = p .words ∙ sym (afterwards-new _ _ ws z);
     }
 
-pub unpacks-where : {b f d ws f' d' ws' : List ℕ} {r : Unpacked} → UnpacksWhere (unpacksNumber b f d ws) (tOf (length f)) b f d ws r f' d' ws' → Unpacks b f d ws r f' d' ws'
-unpacks-where w = record { answer = w .answer; fcmLeft = w .fcmLeft; dfcmLeft = w .dfcmLeft; wordsLeft = w .wordsLeft }
-
 pub check-refused : (b : List ℕ) (k : ℕ) → k ≡ blockNumber b → (k ≡ 0 → ⊥) → record { number = k; count = 0 } ≡ checked b
 unfolding checked
 check-refused b k e h = cc (afterwards-old (blockNumber b) (count b) 0 (λ z. h (e ∙ z)))
@@ -214,10 +211,6 @@ check-done b n z e = cc (afterwards-new (blockNumber b) (count b) 0 z)
 pub packs-number : {ws f d out f' d' out' : List ℕ} {r : Packed} → Packs ws f d out r f' d' out' → r .number ≡ packsNumber ws f d out
 unfolding packed
 packs-number p = ap (λ (x : Packed). x .number) (p .answer)
-
-pub unpacks-number : {b f d ws f' d' ws' : List ℕ} {r : Unpacked} → Unpacks b f d ws r f' d' ws' → r .number ≡ unpacksNumber b f d ws
-unfolding unpacked
-unpacks-number p = ap (λ (x : Unpacked). x .number) (p .answer)
 
 pub checks-number : (b : List ℕ) → checked b .number ≡ blockNumber b
 unfolding checked
@@ -235,16 +228,47 @@ packs-all-of p e =
       out = p .outLeft ∙ afterwards-new _ _ _ z;
     }
 
-pub unpacks-all-of : {b f d ws f' d' ws' : List ℕ} {r : Unpacked} → Unpacks b f d ws r f' d' ws' → r .number ≡ 0 → UnpacksAll (tOf (length f)) b ws f' d' ws' (r .count)
-unfolding unpacked
-unpacks-all-of p e =
-    let z = sym (unpacks-number p) ∙ e in
-    record {
-      count = ap (λ (x : Unpacked). x .count) (p .answer) ∙ afterwards-new _ _ 0 z;
-      fcm = p .fcmLeft ∙ afterwards-new _ _ _ z;
-      dfcm = p .dfcmLeft ∙ afterwards-new _ _ _ z;
-      words = p .wordsLeft ∙ afterwards-new _ _ _ z;
-    }
+module _ {k t : ℕ} {b f d ws f' d' ws' : List ℕ} {r : Unpacked} (p : UnpacksWhere k t b f d ws r f' d' ws') where
+  pub where-number : r .number ≡ k
+  unfolding unpacked
+  where-number = ap (λ (x : Unpacked). x .number) (p .answer)
+
+  pub where-all : r .number ≡ 0 → UnpacksAll t b ws f' d' ws' (r .count)
+  unfolding unpacked
+  where-all e =
+      let z = sym where-number ∙ e in
+      record {
+        count = ap (λ (x : Unpacked). x .count) (p .answer) ∙ afterwards-new _ _ 0 z;
+        fcm = p .fcmLeft ∙ afterwards-new _ _ _ z;
+        dfcm = p .dfcmLeft ∙ afterwards-new _ _ _ z;
+        words = p .wordsLeft ∙ afterwards-new _ _ _ z;
+      }
+
+  -- a refusal changes nothing
+  pub where-nothing : (r .number ≡ 0 → ⊥) → (r .count ≡ 0) × (f' ≡ f) × (d' ≡ d) × (ws' ≡ ws)
+  unfolding unpacked
+  where-nothing h =
+      let n : k ≡ 0 → ⊥ = λ z. h (where-number ∙ z) in (
+        ap (λ (x : Unpacked). x .count) (p .answer) ∙ afterwards-old _ _ 0 n,
+        p .fcmLeft ∙ afterwards-old _ _ _ n,
+        p .dfcmLeft ∙ afterwards-old _ _ _ n,
+        p .wordsLeft ∙ afterwards-old _ _ _ n,
+      )
+
+  -- no second answer
+  pub where-one-answer : {f₂ d₂ ws₂ : List ℕ} {s : Unpacked} → UnpacksWhere k t b f d ws s f₂ d₂ ws₂ → (r ≡ s) × (f' ≡ f₂) × (d' ≡ d₂) × (ws' ≡ ws₂)
+  where-one-answer q = (p .answer ∙ sym (q .answer), p .fcmLeft ∙ sym (q .fcmLeft), p .dfcmLeft ∙ sym (q .dfcmLeft), p .wordsLeft ∙ sym (q .wordsLeft))
+
+  -- what the tables held before plays no part
+  pub where-forgets : {f₀ d₀ f₂ d₂ ws₂ : List ℕ} {s : Unpacked} → UnpacksWhere k t b f₀ d₀ ws s f₂ d₂ ws₂ → r .number ≡ 0
+      → (r ≡ s) × (f' ≡ f₂) × (d' ≡ d₂) × (ws' ≡ ws₂)
+  where-forgets q e =
+      let z = sym where-number ∙ e in (
+        p .answer ∙ sym (q .answer),
+        p .fcmLeft ∙ afterwards-new _ _ _ z ∙ sym (q .fcmLeft ∙ afterwards-new _ _ _ z),
+        p .dfcmLeft ∙ afterwards-new _ _ _ z ∙ sym (q .dfcmLeft ∙ afterwards-new _ _ _ z),
+        p .wordsLeft ∙ sym (q .wordsLeft),
+      )
 
 pub unpacked-of : (r : Unpacked) (k n : ℕ) → r .number ≡ k → r .count ≡ n → r ≡ record { number = k; count = n }
 unpacked-of r k n p q = rw (← p, ← q)

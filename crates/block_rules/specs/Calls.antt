@@ -41,20 +41,18 @@ module _ (words fcm dfcm out : List ℕ) where
     pub dfcmLeft : dfcm' ≡ afterwards packsNumber (packsMemory .dfcm) dfcm
     pub outLeft : out' ≡ afterwards packsNumber (over packsBlock out) out
 
--- unpack(block, fcm, dfcm, words). Where it is refused, all is as it was. After success the tables hold the predictors' state after the last word,
--- and words holds the block's words and then its old content.
+-- Where the number k is 0, the words of a block are unpacked with tables of 2 ^ t words: the tables hold the predictors' state after the last word, and words
+-- holds the block's words and then its old content. Where k is a refusal, all is as it was.
+pub record UnpacksWhere (k t : ℕ) (bytes fcm dfcm words : List ℕ) (r : Unpacked) (fcm' dfcm' words' : List ℕ) : Type 0 where
+  pub answer : r ≡ unpacked k bytes
+  pub fcmLeft : fcm' ≡ afterwards k (after t (cleared t) (wordsIn t bytes) .fcm) fcm
+  pub dfcmLeft : dfcm' ≡ afterwards k (after t (cleared t) (wordsIn t bytes) .dfcm) dfcm
+  pub wordsLeft : words' ≡ afterwards k (over (wordsIn t bytes) words) words
+
+-- unpack(block, fcm, dfcm, words), with the t of its tables
 module _ (bytes fcm dfcm words : List ℕ) where
   abbrev pub unpacksNumber : ℕ
   unpacksNumber = unpackNumber bytes (length fcm) (length dfcm) (length words)
 
-  abbrev pub unpacksWords : List ℕ
-  unpacksWords = wordsIn (tOf (length fcm)) bytes
-
-  abbrev pub unpacksMemory : Memory
-  unpacksMemory = after (tOf (length fcm)) (cleared (tOf (length fcm))) unpacksWords
-
-  pub record Unpacks (r : Unpacked) (fcm' dfcm' words' : List ℕ) : Type 0 where
-    pub answer : r ≡ unpacked unpacksNumber bytes
-    pub fcmLeft : fcm' ≡ afterwards unpacksNumber (unpacksMemory .fcm) fcm
-    pub dfcmLeft : dfcm' ≡ afterwards unpacksNumber (unpacksMemory .dfcm) dfcm
-    pub wordsLeft : words' ≡ afterwards unpacksNumber (over unpacksWords words) words
+  abbrev pub Unpacks : Unpacked → (fcm' dfcm' words' : List ℕ) → Type 0
+  Unpacks r fcm' dfcm' words' = UnpacksWhere unpacksNumber (tOf (length fcm)) bytes fcm dfcm words r fcm' dfcm' words'

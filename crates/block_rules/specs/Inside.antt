@@ -3,14 +3,12 @@ use mathlib.Core.Path.{_≡_}
 use Prim.Native.Nat.{ℕ, _^_, _<_, _≤_}
 use mathlib.Core.List.{List}
 use lib.ListN.{length, replicate}
-use Rattle.answers.specs.Answers.{over, afterwards}
+use Rattle.answers.specs.Answers.{over}
 use Rattle.block_rules.specs.Predictors.{Memory, cleared, after}
 use Rattle.block_rules.specs.Block.{residualsAt, worst, block, wordsIn}
 use Rattle.block_rules.specs.Block as Block
-use Rattle.block_rules.specs.Calls.{unpacked}
 use Rattle.block_rules.specs.Numbers.{tOf, blockNumber}
 use Rattle.block_rules.specs.declared.Carry.{Carry}
-use Rattle.block_rules.specs.declared.Unpacked.{Unpacked}
 
 -- the two tables, and the hashes and the last word that the code carries, as one memory
 abbrev pub memory : List ℕ → List ℕ → Carry → Memory
@@ -65,10 +63,3 @@ pub record UnpacksAll (t : ℕ) (b old f' d' words' : List ℕ) (n : ℕ) : Type
   pub fcm : f' ≡ after t (cleared t) (wordsIn t b) .fcm
   pub dfcm : d' ≡ after t (cleared t) (wordsIn t b) .dfcm
   pub words : words' ≡ over (wordsIn t b) old
-
--- where the number k is 0, a block's words are unpacked with tables of 2 ^ t words; else all is as it was
-pub record UnpacksWhere (k t : ℕ) (b fcm dfcm words : List ℕ) (r : Unpacked) (fcm' dfcm' words' : List ℕ) : Type 0 where
-  pub answer : r ≡ unpacked k b
-  pub fcmLeft : fcm' ≡ afterwards k (after t (cleared t) (wordsIn t b) .fcm) fcm
-  pub dfcmLeft : dfcm' ≡ afterwards k (after t (cleared t) (wordsIn t b) .dfcm) dfcm
-  pub wordsLeft : words' ≡ afterwards k (over (wordsIn t b) words) words

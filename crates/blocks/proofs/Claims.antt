@@ -9,14 +9,14 @@ use Rattle.answers.specs.Answers.{over}
 use Rattle.answers.proofs.Checks.{afterwards-old}
 use Rattle.block_rules.specs.Block.{worst, count, statedLength, residualsAt, countedCodes, lastHalf, residualLength}
 use Rattle.block_rules.specs.Room.{Cut, bound, closerBound}
-use Rattle.block_rules.specs.Calls.{packed, packsNumber, Packs, checked, unpacked, unpacksNumber, Unpacks}
+use Rattle.block_rules.specs.Calls.{packed, packsNumber, Packs, checked, Unpacks}
 use Rattle.block_rules.specs.Numbers.{tOf, tablesNumber}
 use Rattle.block_rules.specs.Inside.{Sized, PacksAll, UnpacksAll}
 use Rattle.block_rules.specs.declared.Packed.{Packed}
 use Rattle.block_rules.specs.declared.Checked.{Checked}
 use Rattle.block_rules.specs.declared.Unpacked.{Unpacked}
 use Rattle.block_rules.proofs.Tables.{sized-power, tables-sized, sized-tables}
-use Rattle.block_rules.proofs.Accept.{packable, packable-packs, whole, whole-checks, unpackable, unpackable-unpacks, packs-number, checks-number, unpacks-number, packs-all-of, unpacks-all-of, unpacked-of, check-done, filler-needs, filler-has}
+use Rattle.block_rules.proofs.Accept.{packable, packable-packs, whole, whole-checks, unpackable, unpackable-unpacks, packs-number, checks-number, packs-all-of, where-number, where-all, where-nothing, where-one-answer, where-forgets, unpacked-of, check-done, filler-needs, filler-has}
 use Rattle.block_rules.proofs.Answered.{pack-one-of, block-one-of, unpack-one-of}
 use Rattle.block_rules.proofs.Round.{block-count, block-whole, block-words, written-block}
 use Rattle.block_rules.proofs.Claims.{block-within-bound, block-within-worst, block-within-closer-bound}
@@ -40,12 +40,7 @@ check-one-answer b p q = p ∙ sym q
 -- Of unpack's answer, of both tables and of the words, refused or not, the promise admits one value each.
 pub unpack-one-answer : {b fcm dfcm words f₁ d₁ w₁ f₂ d₂ w₂ : List ℕ} {r₁ r₂ : Unpacked}
     → Unpacks b fcm dfcm words r₁ f₁ d₁ w₁ → Unpacks b fcm dfcm words r₂ f₂ d₂ w₂ → (r₁ ≡ r₂) × (f₁ ≡ f₂) × (d₁ ≡ d₂) × (w₁ ≡ w₂)
-unpack-one-answer p q = (
-  p .answer ∙ sym (q .answer),
-  p .fcmLeft ∙ sym (q .fcmLeft),
-  p .dfcmLeft ∙ sym (q .dfcmLeft),
-  p .wordsLeft ∙ sym (q .wordsLeft),
-)
+unpack-one-answer p q = where-one-answer p q
 
 -- Nor does the working half of pack, which other crates call where nothing is refused, admit a second answer.
 pub pack-all-one-answer : {t : ℕ} {words old f₁ d₁ o₁ f₂ d₂ o₂ : List ℕ} {k₁ k₂ : ℕ}
@@ -79,14 +74,7 @@ refused-check-counts-nothing b h = afterwards-old _ _ 0 h
 -- A refused unpack answers count 0, and leaves both tables and the words as they were.
 pub refused-unpack-changes-nothing : {b fcm dfcm words f' d' w' : List ℕ} {r : Unpacked} → Unpacks b fcm dfcm words r f' d' w' → (r .number ≡ 0 → ⊥)
     → (r .count ≡ 0) × (f' ≡ fcm) × (d' ≡ dfcm) × (w' ≡ words)
-unfolding unpacked
-refused-unpack-changes-nothing {b} {fcm} {dfcm} {words} p h =
-    let k : unpacksNumber b fcm dfcm words ≡ 0 → ⊥ = λ z. h (unpacks-number p ∙ z) in (
-      ap (λ (x : Unpacked). x .count) (p .answer) ∙ afterwards-old _ _ 0 k,
-      p .fcmLeft ∙ afterwards-old _ _ _ k,
-      p .dfcmLeft ∙ afterwards-old _ _ _ k,
-      p .wordsLeft ∙ afterwards-old _ _ _ k,
-    )
+refused-unpack-changes-nothing p h = where-nothing p h
 
 -- ---- when each call answers 0
 
@@ -140,8 +128,8 @@ check-accepts b = (
 -- Unpack answers 0 just where it has what it needs.
 pub unpack-accepts : {b fcm dfcm words f' d' w' : List ℕ} {r : Unpacked} → Unpacks b fcm dfcm words r f' d' w' → (r .number ≡ 0) ↔ UnpackTakes b fcm dfcm words
 unpack-accepts {b} p = (
-  (λ e. let k = unpackable _ _ _ _ (sym (unpacks-number p) ∙ e) in record { tables = tables-of _ _ (k .sized); whole = check-accepts b .0 (checks-number b ∙ k .whole); room = k .room }),
-  (λ k. unpacks-number p ∙ unpackable-unpacks _ _ _ _ (record { sized = of-tables _ _ (k .tables); whole = sym (checks-number b) ∙ check-accepts b .1 (k .whole); room = k .room })),
+  (λ e. let k = unpackable _ _ _ _ (sym (where-number p) ∙ e) in record { tables = tables-of _ _ (k .sized); whole = check-accepts b .0 (checks-number b ∙ k .whole); room = k .room }),
+  (λ k. where-number p ∙ unpackable-unpacks _ _ _ _ (record { sized = of-tables _ _ (k .tables); whole = sym (checks-number b) ∙ check-accepts b .1 (k .whole); room = k .room })),
 )
 
 -- The tables' number is 0 just for two tables of 2 ^ t words, with t from 0 to 16.
@@ -160,7 +148,7 @@ check-numbers b = mem-cast (checks-number b) (block-one-of b)
 
 -- Unpack answers 0, 1, one of check's numbers, or 3.
 pub unpack-numbers : {b fcm dfcm words f' d' w' : List ℕ} {r : Unpacked} → Unpacks b fcm dfcm words r f' d' w' → List·Mem (r .number) (0 ∷ 1 ∷ 4 ∷ 2 ∷ 5 ∷ 6 ∷ 3 ∷ [])
-unpack-numbers p = mem-cast (unpacks-number p) (unpack-one-of _ _ _ _)
+unpack-numbers p = mem-cast (where-number p) (unpack-one-of _ _ _ _)
 
 -- ---- what the tables held before plays no part
 
@@ -182,15 +170,7 @@ pack-forgets p q e g z =
 pub unpack-forgets : {b f₁ d₁ f₂ d₂ words f₁' d₁' f₂' d₂' w₁ w₂ : List ℕ} {r₁ r₂ : Unpacked}
     → Unpacks b f₁ d₁ words r₁ f₁' d₁' w₁ → Unpacks b f₂ d₂ words r₂ f₂' d₂' w₂ → length f₁ ≡ length f₂ → length d₁ ≡ length d₂ → r₁ .number ≡ 0
     → (r₁ ≡ r₂) × (f₁' ≡ f₂') × (d₁' ≡ d₂') × (w₁ ≡ w₂)
-unpack-forgets p q e g z =
-    let y = unpacks-number q ∙ sym (rw (e, g) at (unpacks-number p)) ∙ z in
-    let a = unpacks-all-of p z in
-    let c = unpacks-all-of q y in (
-      cc (e),
-      (rw e at (a .fcm)) ∙ sym (c .fcm),
-      (rw e at (a .dfcm)) ∙ sym (c .dfcm),
-      (rw e at (a .words)) ∙ sym (c .words),
-    )
+unpack-forgets p q e g z = where-forgets (rw (e, g) at p) q z
 
 -- ---- there and back
 
@@ -218,8 +198,8 @@ round-trip {words} {fcm} h p e q lf ld l =
     let back = block-words t words (k .few) h in
     let n = block-count t words (k .few) in
     let u = rw (written-block w) at q in
-    let z = unpacks-number u ∙ unpackable-unpacks _ _ _ _ (record { sized = rw (lf, ld) (k .sized); whole = block-whole t words (k .few); room = rw n l }) in
-    let g = rw lf at (unpacks-all-of u z) in (
+    let z = where-number u ∙ unpackable-unpacks _ _ _ _ (record { sized = rw (lf, ld) (k .sized); whole = block-whole t words (k .few); room = rw n l }) in
+    let g = rw lf at (where-all u z) in (
       unpacked-of _ _ _ z (g .count ∙ n),
       g .words ∙ rw back,
       g .fcm ∙ rw back (sym (w .fcm)),

@@ -1,9 +1,10 @@
 // Fetching the words of a slot.
 ghost use mathlib.Core.Path.{_≡_};
 ghost use Prim.Native.Nat.{_≤_};
+ghost use Rattle.exam_rules.specs.Numbers.{foundNumber};
 ghost use Rattle.exam_rules.specs.Calls.{Fetches};
 ghost use Rattle.exam_rules.specs.Inside.{Standing};
-ghost use Rattle.exam_fetching.specs.Inside.{fetchNumberOf, FetchesOpened};
+ghost use Rattle.exam_fetching.specs.Inside.{FetchesOpened};
 use block_rules::Unpacked;
 use exam_rules::Opened;
 use exam_rules::Trailer;
@@ -11,7 +12,7 @@ use exam_rules::Trailer;
 // The number that fetching answers, once the slot was looked for.
 fn fetch_number(found: u32, block: &[u8], t: usize, fcm: usize, dfcm: usize, room: usize) -> u32
     requires { ⌜ t ≤ 16 ⌝ }
-    ensures { λ r. ⌜ r ≡ fetchNumberOf found (now (block .entry)) t fcm dfcm room ⌝ }
+    ensures { λ r. ⌜ r ≡ foundNumber found (now (block .entry)) t fcm dfcm room ⌝ }
 {
     if found != 0 {
         return found;

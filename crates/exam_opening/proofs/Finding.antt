@@ -1,17 +1,15 @@
 -- Finding a slot in a file that was opened or refused.
 use mathlib.Core.Path.{_≡_, refl, sym, ap, _∙_}
-use mathlib.Core.List.{List, [], _∷_}
+use mathlib.Core.List.{List, []}
 use Prim.Native.Nat.{ℕ, _-_, _<_, _+_, _*_, _≤_}
 use native.Mathlib.Omega.{arith}
-use lib.Dec.{ltb}
 use lib.ListN.{length, take, drop, getD}
 use borrow.Author.Tests.{le-ltb, lt-ltb}
 use Rattle.words.specs.Bytes.{field}
-use Rattle.answers.specs.Answers.{unless, firstFailure}
 use Rattle.answers.proofs.Checks.{fails-here, fails-later, last-decides, afterwards-old, unless-fails, unless-passes, afterwards-new}
 use Rattle.exam_rules.specs.File.{Entry, blockOf, entry}
 use Rattle.exam_rules.specs.Reading.{fileIn, indexOf, entryOf, entriesAt, entryAt, directoryAt, entriesIn}
-use Rattle.exam_rules.specs.Numbers.{openInNumber, findNumber, blockIn}
+use Rattle.exam_rules.specs.Numbers.{slotNumber, findNumber, blockIn}
 use Rattle.exam_rules.specs.Calls.{opened, openedNumber, Finds, located}
 use Rattle.exam_rules.specs.Inside.{Standing}
 use Rattle.exam_rules.specs.declared.Trailer.{Trailer}
@@ -31,6 +29,7 @@ module _ (f : List ℕ) (tr : Trailer) (st : Standing f tr) where
     index-is = e ∙ ap (λ (es : List Entry). indexOf slot es) (entries-are f tr st)
 
     pub part-missing : i ≡ tr .entries → PartOf f slot (record { number = 10; index = i; start = 0; end = 0 })
+    unfolding slotNumber
     part-missing q =
         record {
           number = unless-fails _ _ (le-ltb (indexOf slot (fileIn f .entries)) (length (fileIn f .entries)) (omega (arith, index-is, many-is f tr st, entries-many f)));
@@ -61,7 +60,7 @@ module _ (f : List ℕ) (tr : Trailer) (st : Standing f tr) where
             omega (arith, rw g at w, body-long f)
 
         pub part-found : PartOf f slot (record { number = 0; index = i; start = offset; end = offset + size })
-        unfolding entryAt blockOf fileIn
+        unfolding entryAt blockOf fileIn slotNumber
         part-found =
             let k : offset + size - offset ≡ size = omega arith in
             let w = part-ends in
@@ -82,7 +81,7 @@ module _ (b : List ℕ) (l exam slot : ℕ) (a : Opened) (e : a ≡ opened b l e
   unfolding findNumber
   find-refused k n d q =
       let t = refused-tells b l exam k (sym e ∙ d) in
-      let r : n ≡ firstFailure (openInNumber b l exam ∷ unless (ltb (indexOf slot (fileIn (take l b) .entries)) (length (fileIn (take l b) .entries))) 10 ∷ []) =
+      let r : n ≡ findNumber b l exam slot =
       fails-here _ _ _ (q ∙ ap openedNumber d ∙ t .0) (λ z. t .1 (sym (q ∙ ap openedNumber d) ∙ z)) in
       record { numberLeft = r; answer = sym (afterwards-old _ _ _ (λ z. t .1 (sym (q ∙ ap openedNumber d) ∙ r ∙ z))) }
 

@@ -3,15 +3,15 @@ use mathlib.Core.Path.{_≡_}
 use Prim.Native.Nat.{ℕ, _-_, _≤_}
 use mathlib.Core.List.{List, []}
 use lib.ListN.{length, take, drop}
-use lib.Dec.{ltb}
-use Rattle.answers.specs.Answers.{unless, afterwards}
+use Rattle.answers.specs.Answers.{afterwards}
 use Rattle.exam_rules.specs.File.{blockOf}
 use Rattle.exam_rules.specs.Reading.{fileIn, indexOf, entryOf}
+use Rattle.exam_rules.specs.Numbers.{slotNumber}
 use Rattle.exam_opening.specs.declared.Part.{Part}
 
 -- the part of a slot in a file that is open, and where its entry stands among the entries
 pub record PartOf (f : List ℕ) (slot : ℕ) (r : Part) : Type 0 where
-  pub number : r .number ≡ unless (ltb (indexOf slot (fileIn f .entries)) (length (fileIn f .entries))) 10
+  pub number : r .number ≡ slotNumber (fileIn f) slot
   pub index : r .index ≡ indexOf slot (fileIn f .entries)
   pub offset : r .start ≡ afterwards (r .number) (entryOf slot (fileIn f) .offset) 0
   pub size : r .end - r .start ≡ afterwards (r .number) (entryOf slot (fileIn f) .size) 0

@@ -11,14 +11,14 @@ use Rattle.words.proofs.Tests.{either}
 use Rattle.words.proofs.Moves.{same-equal, equal-same}
 use Rattle.answers.proofs.Checks.{unless-passes, unless-holds, none-fails, fails-later, last-decides, all-pass, passes, afterwards-new, afterwards-old}
 use Rattle.block_rules.specs.Block.{count, worst}
-use Rattle.block_rules.specs.Calls.{unpacked}
 use Rattle.block_rules.specs.Numbers.{blockNumber}
 use Rattle.block_rules.specs.Inside.{Packable}
 use Rattle.block_rules.specs.declared.Unpacked.{Unpacked}
 use Rattle.block_rules.proofs.Tables.{sized-power}
+use Rattle.block_rules.proofs.Accept.{where-number}
 use Rattle.exam_rules.specs.File.{Entry, entry, File, mark}
 use Rattle.exam_rules.specs.Reading.{markIn, editionIn, tIn, examIn, distanceIn, entriesIn, lengthIn, fileIn, indexOf}
-use Rattle.exam_rules.specs.Numbers.{mostBytes, joins, entriesNumber, directoryNumber, openInNumber, findNumber, blockIn, fileTablesNumber, fetchNumber, createNumber, nextSlot, storeNumber, appendNumber}
+use Rattle.exam_rules.specs.Numbers.{mostBytes, joins, entriesNumber, directoryNumber, openInNumber, slotNumber, findNumber, blockIn, fileTablesNumber, foundNumber, fetchNumber, createNumber, nextSlot, storeNumber, appendNumber}
 use Rattle.exam_rules.specs.Calls.{trailerOf, opened, openedNumber, fetchesNumber, Fetches, appendsNumber}
 use Rattle.exam_rules.specs.declared.Opened.the-variants.{Done}
 use Rattle.exam_rules.proofs.Directory.{heads, heads-keep, joins-equal, equal-joins, edition-is, edition-one}
@@ -137,11 +137,11 @@ pub record FindTakes (b : List ℕ) (l exam slot : ℕ) : Type 0 where
   pub there : SlotIn slot (fileIn (take l b) .entries)
 
 pub find-tells : (b : List ℕ) (l exam slot : ℕ) → findNumber b l exam slot ≡ 0 → (openInNumber b l exam ≡ 0) × (indexOf slot (fileIn (take l b) .entries) < length (fileIn (take l b) .entries))
-unfolding findNumber
+unfolding findNumber slotNumber
 find-tells b l exam slot z = let a = none-fails _ _ z in (a .0, ltb-true _ _ (unless-holds _ _ (none-fails _ _ (a .1) .0) (omega arith)))
 
 pub find-passes : (b : List ℕ) (l exam slot : ℕ) → openInNumber b l exam ≡ 0 → indexOf slot (fileIn (take l b) .entries) < length (fileIn (take l b) .entries) → findNumber b l exam slot ≡ 0
-unfolding findNumber
+unfolding findNumber slotNumber
 find-passes b l exam slot z h = sym (fails-later _ _ _ z (passes _ _ _ _ (lt-ltb _ _ h) all-pass))
 
 pub find-takes : (b : List ℕ) (l exam slot : ℕ) → findNumber b l exam slot ≡ 0 → FindTakes b l exam slot
@@ -174,7 +174,7 @@ pub record FetchTakes (b : List ℕ) (l exam slot f d room : ℕ) : Type 0 where
   pub enough : count (blockIn b l slot) ≤ room
 
 pub fetch-takes : (b : List ℕ) (l exam slot f d room : ℕ) → fetchNumber b l exam slot f d room ≡ 0 → FetchTakes b l exam slot f d room
-unfolding fetchNumber
+unfolding fetchNumber foundNumber
 fetch-takes b l exam slot f d room z =
     let a = none-fails _ _ z in
     let c = none-fails _ _ (a .1) in
@@ -189,7 +189,7 @@ fetch-takes b l exam slot f d room z =
     }
 
 pub takes-fetch : (b : List ℕ) (l exam slot f d room : ℕ) → FetchTakes b l exam slot f d room → fetchNumber b l exam slot f d room ≡ 0
-unfolding fetchNumber
+unfolding fetchNumber foundNumber
 takes-fetch b l exam slot f d room k =
     sym
     (fails-later _ _ _ (takes-find b l exam slot (k .finds))
@@ -324,5 +324,4 @@ opened-done b l exam z = afterwards-new _ _ _ z
 
 pub fetches-number : {b : List ℕ} {l exam slot : ℕ} {fcm dfcm words f' d' w' : List ℕ} {r : Unpacked} → Fetches b l exam slot fcm dfcm words r f' d' w'
     → r .number ≡ fetchesNumber b l exam slot fcm dfcm words
-unfolding unpacked
-fetches-number c = ap (λ (x : Unpacked). x .number) (c .answer)
+fetches-number c = where-number (c .unpacks)

@@ -8,7 +8,7 @@ use Rattle.answers.proofs.OneOf.{one-of-more, no-check-one-of, verdict-one-of, 
 use Rattle.block_rules.proofs.Answered.{block-one-of}
 use Rattle.exam_rules.specs.File.{Entry, File}
 use Rattle.exam_rules.specs.Reading.{fileIn}
-use Rattle.exam_rules.specs.Numbers.{entriesNumber, directoryNumber, fieldsNumber, trailerNumber, openNumber, openInNumber, findNumber, blockIn, fileTablesNumber, fetchNumber, createNumber, storeNumber, appendNumber}
+use Rattle.exam_rules.specs.Numbers.{entriesNumber, directoryNumber, fieldsNumber, trailerNumber, openNumber, openInNumber, slotNumber, findNumber, blockIn, fileTablesNumber, foundNumber, fetchNumber, createNumber, storeNumber, appendNumber}
 use Rattle.exam_rules.specs.Calls.{appendsNumber}
 
 entries-one-of : (test : ℕ → ℕ → Bool) (lowest from : ℕ) (es : List Entry) (to : ℕ) → List·Mem (entriesNumber test lowest from es to) (0 ∷ 9 ∷ [])
@@ -42,7 +42,7 @@ unfolding openInNumber
 open-in-one-of b l exam = check-one-of _ 4 _ (verdict-one-of _ _ (open-one-of (take l b) exam) (no-check-one-of _)) refl
 
 pub find-one-of : (b : List ℕ) (l exam slot : ℕ) → List·Mem (findNumber b l exam slot) (0 ∷ 4 ∷ 7 ∷ 8 ∷ 9 ∷ 10 ∷ [])
-unfolding findNumber
+unfolding findNumber slotNumber
 find-one-of b l exam slot = verdict-one-of _ _ (one-of-more _ _ (open-in-one-of b l exam) refl) (check-one-of _ 10 _ (no-check-one-of _) refl)
 
 tables-one-of : (t f d : ℕ) → List·Mem (fileTablesNumber t f d) (0 ∷ 1 ∷ [])
@@ -51,7 +51,7 @@ tables-one-of t f d = check-one-of _ 1 _ (check-one-of _ 1 _ (no-check-one-of _)
 
 pub fetch-one-of : (b : List ℕ) (l exam slot f d room : ℕ)
     → List·Mem (fetchNumber b l exam slot f d room) (0 ∷ 4 ∷ 7 ∷ 8 ∷ 9 ∷ 10 ∷ 1 ∷ 2 ∷ 5 ∷ 6 ∷ 3 ∷ [])
-unfolding fetchNumber
+unfolding fetchNumber foundNumber
 fetch-one-of b l exam slot f d room =
     verdict-one-of _ _ (one-of-more _ _ (find-one-of b l exam slot) refl)
     (verdict-one-of _ _ (one-of-more _ _ (tables-one-of (fileIn (take l b) .t) f d) refl)

@@ -8,12 +8,10 @@ use lib.ListN.{length, getD, take, length-append}
 use lib.Seq.{getD-at, take-append-seam, drop-append-seam}
 use Rattle.words.proofs.Each.{Each}
 use Rattle.answers.specs.Answers.{over}
-use Rattle.answers.proofs.Checks.{afterwards-new}
 use Rattle.block_rules.specs.Block.{block, count, wordsIn}
-use Rattle.block_rules.specs.Calls.{unpacked}
 use Rattle.block_rules.specs.Numbers.{blockNumber}
 use Rattle.block_rules.specs.declared.Unpacked.{Unpacked}
-use Rattle.block_rules.proofs.Accept.{unpacked-of}
+use Rattle.block_rules.proofs.Accept.{unpacked-of, where-all}
 use Rattle.exam_rules.specs.File.{Entry, entry, File, blockOf, appended}
 use Rattle.exam_rules.specs.Reading.{fileIn, indexOf, entryOf}
 use Rattle.exam_rules.specs.Numbers.{findNumber, blockIn}
@@ -22,7 +20,7 @@ use Rattle.exam_rules.specs.Pieces.{Piece, blocksOf, entriesOf, fileOfPi
 use Rattle.exam_rules.specs.declared.Made.{Made}
 use Rattle.exam_rules.proofs.Directory.{index-of-entry}
 use Rattle.exam_rules.proofs.Changes.{changes-number}
-use Rattle.exam_rules.proofs.Accept.{find-passes, find-takes, takes-fetch, create-takes}
+use Rattle.exam_rules.proofs.Accept.{find-passes, find-takes, takes-fetch, create-takes, fetches-number}
 use Rattle.exam_rules.proofs.Holds.{good-empty, Holds, changed-holds, holds-parts, holds-opens, appended-holds}
 
 -- ---- pieces and then pieces
@@ -81,7 +79,6 @@ pub record ReadsAs (t : ℕ) (b words : List ℕ) : Type 0 where
 pub block-fetched : {b : List ℕ} {l exam slot : ℕ} (t : ℕ) (blk : List ℕ) {words fcm dfcm room fcm' dfcm' room' : List ℕ} {r : Unpacked}
     → findNumber b l exam slot ≡ 0 → blockIn b l slot ≡ blk → fileIn (take l b) .t ≡ t → ReadsAs t blk words → Fetches b l exam slot fcm dfcm room r fcm' dfcm' room'
     → length fcm ≡ 2 ^ t → length dfcm ≡ 2 ^ t → length words ≤ length room → (r ≡ record { number = 0; count = length words }) × (room' ≡ over words room)
-unfolding unpacked
 block-fetched {b} {l} {exam} {slot} t blk {room = room} found is t-is s c lf ld enough =
     let z =
     takes-fetch b l exam slot _ _ (length room)
@@ -92,7 +89,8 @@ block-fetched {b} {l} {exam} {slot} t blk {room = room} found is t-is s c lf ld 
       whole = rw is (s .whole);
       enough = rw (is, s .many) enough;
     }) in
-    (c .answer ∙ unpacked-of _ _ _ z (afterwards-new _ _ 0 z ∙ rw is (s .many)), c .wordsLeft ∙ afterwards-new _ _ room z ∙ rw (is, t-is, s .reads))
+    let u = where-all (c .unpacks) (fetches-number c ∙ z) in
+    (unpacked-of _ _ _ (fetches-number c ∙ z) (u .count ∙ rw is (s .many)), u .words ∙ rw (is, t-is, s .reads))
 
 module _ {b : List ℕ} {l exam t : ℕ} {p : Piece} (h : HoldsPiece b l exam t p) where
   abbrev file : File

@@ -5,8 +5,8 @@ use mathlib.Core.List.{List, [], _∷_}
 use lib.ListN.{length, take}
 use Rattle.answers.specs.Answers.{firstFailure, afterwards, over}
 use Rattle.block_rules.specs.Predictors.{Memory, cleared, after}
-use Rattle.block_rules.specs.Block.{block, wordsIn}
-use Rattle.block_rules.specs.Calls.{unpacked}
+use Rattle.block_rules.specs.Block.{block}
+use Rattle.block_rules.specs.Calls.{UnpacksWhere}
 use Rattle.block_rules.specs.declared.Unpacked.{Unpacked}
 use Rattle.exam_rules.specs.File.{File, fileLength, fileBytes, empty, appended}
 use Rattle.exam_rules.specs.Reading.{fileIn, entryOf}
@@ -64,25 +64,13 @@ located b l exam slot =
 
 -- ---- fetch
 
--- fetch(file, length, exam, slot, fcm, dfcm, words): as unpack leaves them, with tables of 2 ^ t words
+-- fetch(file, length, exam, slot, fcm, dfcm, words): as unpack leaves them for the slot's block, with tables of 2 ^ t words
 module _ (b : List ℕ) (l exam slot : ℕ) (fcm dfcm words : List ℕ) where
   abbrev pub fetchesNumber : ℕ
   fetchesNumber = fetchNumber b l exam slot (length fcm) (length dfcm) (length words)
 
-  abbrev pub fetchesT : ℕ
-  fetchesT = fileIn (take l b) .t
-
-  abbrev pub fetchesWords : List ℕ
-  fetchesWords = wordsIn fetchesT (blockIn b l slot)
-
-  abbrev pub fetchesMemory : Memory
-  fetchesMemory = after fetchesT (cleared fetchesT) fetchesWords
-
   pub record Fetches (r : Unpacked) (fcm' dfcm' words' : List ℕ) : Type 0 where
-    pub answer : r ≡ unpacked fetchesNumber (blockIn b l slot)
-    pub fcmLeft : fcm' ≡ afterwards fetchesNumber (fetchesMemory .fcm) fcm
-    pub dfcmLeft : dfcm' ≡ afterwards fetchesNumber (fetchesMemory .dfcm) dfcm
-    pub wordsLeft : words' ≡ afterwards fetchesNumber (over fetchesWords words) words
+    pub unpacks : UnpacksWhere fetchesNumber (fileIn (take l b) .t) (blockIn b l slot) fcm dfcm words r fcm' dfcm' words'
 
 -- ---- calls that make or change a file
 

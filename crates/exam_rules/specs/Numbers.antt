@@ -79,12 +79,16 @@ openInNumber b l exam =
     ∷ openNumber (take l b) exam
     ∷ [])
 
+-- find a slot among the entries of a file: 10
+unfoldable pub slotNumber : File → ℕ → ℕ
+slotNumber f slot = unless (ltb (indexOf slot (f .entries)) (length (f .entries))) 10
+
 -- find a slot: open, 10
 unfoldable pub findNumber : List ℕ → ℕ → ℕ → ℕ → ℕ
 findNumber b l exam slot =
     firstFailure
     (openInNumber b l exam
-    ∷ unless (ltb (indexOf slot (fileIn (take l b) .entries)) (length (fileIn (take l b) .entries))) 10
+    ∷ slotNumber (fileIn (take l b)) slot
     ∷ [])
 
 -- the block of a slot in the first l bytes of a buffer
@@ -99,15 +103,19 @@ fileTablesNumber t f d =
     ∷ unless (eqb f (2 ^ t)) 1
     ∷ [])
 
+-- fetch the words of the block b, of a file with this t, once a slot was looked for: the number of that, 1, block checks, 3
+unfoldable pub foundNumber : ℕ → List ℕ → ℕ → ℕ → ℕ → ℕ → ℕ
+foundNumber found b t f d room =
+    firstFailure
+    (found
+    ∷ fileTablesNumber t f d
+    ∷ blockNumber b
+    ∷ unless (leb (count b) room) 3
+    ∷ [])
+
 -- fetch a slot's words with tables of f and d words into room for some words: find, 1, block checks, 3
 unfoldable pub fetchNumber : List ℕ → ℕ → ℕ → ℕ → ℕ → ℕ → ℕ → ℕ
-fetchNumber b l exam slot f d room =
-    firstFailure
-    (findNumber b l exam slot
-    ∷ fileTablesNumber (fileIn (take l b) .t) f d
-    ∷ blockNumber (blockIn b l slot)
-    ∷ unless (leb (count (blockIn b l slot)) room) 3
-    ∷ [])
+fetchNumber b l exam slot f d room = foundNumber (findNumber b l exam slot) (blockIn b l slot) (fileIn (take l b) .t) f d room
 
 -- create an empty file in room for some bytes: 8, 7, 3
 unfoldable pub createNumber : ℕ → ℕ → ℕ → ℕ

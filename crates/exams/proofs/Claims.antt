@@ -11,18 +11,18 @@ use Rattle.words.proofs.Each.{Each, none, each-more, each-at}
 use Rattle.answers.specs.Answers.{over}
 use Rattle.answers.proofs.Checks.{afterwards-new, afterwards-old}
 use Rattle.block_rules.specs.Block.{block}
-use Rattle.block_rules.specs.Calls.{unpacked}
 use Rattle.block_rules.specs.Numbers.{blockNumber}
 use Rattle.block_rules.specs.declared.Unpacked.{Unpacked}
 use Rattle.exam_rules.specs.File.{File, fileLength, fileBytes, appended}
 use Rattle.exam_rules.specs.Reading.{tIn, examIn, distanceIn, entriesIn, lengthIn, fileIn, entryOf}
 use Rattle.exam_rules.specs.Numbers.{openInNumber, findNumber, blockIn}
-use Rattle.exam_rules.specs.Calls.{trailerOf, opened, openedNumber, openedT, openedEntries, openedStart, Finds, located, fetchesNumber, Fetches, Creates, appendsNumber, Appends}
+use Rattle.exam_rules.specs.Calls.{trailerOf, opened, openedNumber, openedT, openedEntries, openedStart, Finds, located, Fetches, Creates, appendsNumber, Appends}
 use Rattle.exam_rules.specs.Maps.{Map, pieceOf, fileOf}
 use Rattle.exam_rules.specs.declared.Located.{Located}
 use Rattle.exam_rules.specs.declared.Made.{Made}
 use Rattle.exam_rules.specs.declared.Opened.{Opened}
 use Rattle.exam_rules.specs.declared.Opened.the-variants.{Done, Refused}
+use Rattle.block_rules.proofs.Accept.{where-nothing, where-one-answer, where-forgets}
 use Rattle.exam_rules.proofs.Opens.{opens-in, t-in, body-long, entries-many}
 use Rattle.exam_rules.proofs.Changes.{change-one-answer, changes-number, changes-none}
 use Rattle.exam_rules.proofs.Accept.{OpenTakes, open-takes, takes-open, FindTakes, find-takes, takes-find, FetchTakes, fetch-takes, takes-fetch, takes-create, AppendTakes, append-takes, takes-append, opened-number, opened-done, fetches-number, CreateTakes, create-takes}
@@ -50,7 +50,7 @@ locate-one-answer b l exam slot p q = p ∙ sym q
 -- Of fetch's answer, of both tables and of the words, refused or not, the promise admits one value each.
 pub fetch-one-answer : {b : List ℕ} {l exam slot : ℕ} {fcm dfcm words f₁ d₁ w₁ f₂ d₂ w₂ : List ℕ} {r₁ r₂ : Unpacked}
     → Fetches b l exam slot fcm dfcm words r₁ f₁ d₁ w₁ → Fetches b l exam slot fcm dfcm words r₂ f₂ d₂ w₂ → (r₁ ≡ r₂) × (f₁ ≡ f₂) × (d₁ ≡ d₂) × (w₁ ≡ w₂)
-fetch-one-answer p q = (p .answer ∙ sym (q .answer), p .fcmLeft ∙ sym (q .fcmLeft), p .dfcmLeft ∙ sym (q .dfcmLeft), p .wordsLeft ∙ sym (q .wordsLeft))
+fetch-one-answer p q = where-one-answer (p .unpacks) (q .unpacks)
 
 -- Of create's answer and of the buffer, refused or not, the promise admits one value each.
 pub create-one-answer : {b b₁ b₂ : List ℕ} {exam t : ℕ} {r₁ r₂ : Made} → Creates b exam t r₁ b₁ → Creates b exam t r₂ b₂ → (r₁ ≡ r₂) × (b₁ ≡ b₂)
@@ -153,14 +153,7 @@ one-exam b l e₁ e₂ p q = sym (own-exam b l e₁ p .0) ∙ own-exam b l e₂ 
 pub fetch-forgets : {b : List ℕ} {l exam slot : ℕ} {f₁ d₁ f₂ d₂ words f₁' d₁' f₂' d₂' w₁ w₂ : List ℕ} {r₁ r₂ : Unpacked}
     → Fetches b l exam slot f₁ d₁ words r₁ f₁' d₁' w₁ → Fetches b l exam slot f₂ d₂ words r₂ f₂' d₂' w₂ → length f₁ ≡ length f₂ → length d₁ ≡ length d₂ → r₁ .number ≡ 0
     → (r₁ ≡ r₂) × (f₁' ≡ f₂') × (d₁' ≡ d₂') × (w₁ ≡ w₂)
-fetch-forgets p q e g z =
-    let x = sym (fetches-number p) ∙ z in
-    let y = rw (e, g) at x in (
-      p .answer ∙ rw (e, g) (sym (q .answer)),
-      p .fcmLeft ∙ afterwards-new _ _ _ x ∙ sym (q .fcmLeft ∙ afterwards-new _ _ _ y),
-      p .dfcmLeft ∙ afterwards-new _ _ _ x ∙ sym (q .dfcmLeft ∙ afterwards-new _ _ _ y),
-      p .wordsLeft ∙ afterwards-new _ _ _ x ∙ sym (q .wordsLeft ∙ afterwards-new _ _ _ y),
-    )
+fetch-forgets p q e g z = where-forgets (rw (e, g) at (p .unpacks)) (q .unpacks) z
 
 -- So do two accepted runs of append: the same answer, file and bench buffer, and equal tables.
 pub append-forgets : {b : List ℕ} {l exam slot : ℕ} {words f₁ d₁ f₂ d₂ bench b₁ f₁' d₁' n₁ b₂ f₂' d₂' n₂ : List ℕ} {r₁ r₂ : Made}
@@ -281,14 +274,7 @@ located-is-found {b} {l} {exam} {slot} {part} c q =
 -- A refused fetch leaves both tables and the words as they were.
 pub refused-fetch-changes-nothing : {b : List ℕ} {l exam slot : ℕ} {fcm dfcm words f' d' w' : List ℕ} {r : Unpacked}
     → Fetches b l exam slot fcm dfcm words r f' d' w' → (r .number ≡ 0 → ⊥) → (r .count ≡ 0) × (f' ≡ fcm) × (d' ≡ dfcm) × (w' ≡ words)
-unfolding unpacked
-refused-fetch-changes-nothing {b} {l} {exam} {slot} {fcm} {dfcm} {words} c h =
-    let k : fetchesNumber b l exam slot fcm dfcm words ≡ 0 → ⊥ = λ z. h (fetches-number c ∙ z) in (
-      ap (λ (x : Unpacked). x .count) (c .answer) ∙ afterwards-old _ _ 0 k,
-      c .fcmLeft ∙ afterwards-old _ _ _ k,
-      c .dfcmLeft ∙ afterwards-old _ _ _ k,
-      c .wordsLeft ∙ afterwards-old _ _ _ k,
-    )
+refused-fetch-changes-nothing c h = where-nothing (c .unpacks) h
 
 -- A refused append changes nothing.
 pub refused-append-changes-nothing : {b : List ℕ} {l exam slot : ℕ} {words fcm dfcm bench b' f' d' bench' : List ℕ} {r : Made}

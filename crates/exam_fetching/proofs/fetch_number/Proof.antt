@@ -5,19 +5,19 @@ use borrow.Author.Needs.{needs}
 use Rattle.answers.proofs.Checks.{all-pass, fails-here, fails-later, passes, stops}
 use Rattle.block_rules.specs.Block.{count}
 use Rattle.block_rules.proofs.Accept.{whole}
-use Rattle.exam_fetching.specs.Inside.{fetchNumberOf}
+use Rattle.exam_rules.specs.Numbers.{foundNumber}
 use Rattle.exam_fetching.proofs.fetch_number.Statement.{statement}
 use Rattle.exam_fetching.proofs.fetch_number.Tie as tie
 
 returns : tie.Need-returns
-unfolding fetchNumberOf
+unfolding foundNumber
 returns c = fails-here _ _ _ refl (c .if1 .taken)
 
 file-tables-number-requires : tie.Need-file-tables-number-requires
 file-tables-number-requires c κs = search needs
 
 returns-2 : tie.Need-returns-2
-unfolding fetchNumberOf
+unfolding foundNumber
 returns-2 c =
     let at-file-tables-number = c .before in
     let at-if1 = at-file-tables-number .before in
@@ -27,7 +27,7 @@ block-number-requires : tie.Need-block-number-requires
 block-number-requires c κs = search needs
 
 returns-3 : tie.Need-returns-3
-unfolding fetchNumberOf
+unfolding foundNumber
 returns-3 c =
     let at-block-number = c .before in
     let at-if2 = at-block-number .before in
@@ -43,7 +43,7 @@ count-requires c κs =
     whole _ (sym (at-block-number .block-number .ensures) ∙ c .if3 .left) .long
 
 returns-4 : tie.Need-returns-4
-unfolding fetchNumberOf
+unfolding foundNumber
 returns-4 c =
     let at-count = c .before in
     let at-if3 = at-count .before in
@@ -58,7 +58,7 @@ returns-4 c =
     (stops _ _ _ (lt-leb (count (entry .args .block .now)) (entry .args .room) (omega (arith, at-count .count .ensures, c .if4 .taken))) (omega arith))))
 
 returns-5 : tie.Need-returns-5
-unfolding fetchNumberOf
+unfolding foundNumber
 returns-5 c =
     let at-count = c .before in
     let at-if3 = at-count .before in

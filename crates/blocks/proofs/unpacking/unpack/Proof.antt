@@ -1,6 +1,6 @@
 use native.Mathlib.Omega.{arith}
 use borrow.Author.Needs.{needs}
-use Rattle.block_rules.proofs.Accept.{unpackable, where-refused, where-done, unpacks-where}
+use Rattle.block_rules.proofs.Accept.{unpackable, where-refused, where-done}
 use Rattle.blocks.proofs.unpacking.unpack.Statement.{statement}
 use Rattle.blocks.proofs.unpacking.unpack.Tie as tie
 
@@ -10,7 +10,7 @@ unpack-number-requires c κs = search needs
 returns : tie.Need-returns
 returns c =
     let at-unpack-number = c .before in
-    unpacks-where (where-refused _ _ _ _ _ _ _ (at-unpack-number .unpack-number .ensures) (λ e. omega (arith, c .if1 .taken)))
+    where-refused _ _ _ _ _ _ _ (at-unpack-number .unpack-number .ensures) (λ e. omega (arith, c .if1 .taken))
 
 unpack-all-requires : tie.Need-unpack-all-requires
 unpack-all-requires c κs =
@@ -32,7 +32,7 @@ returns-2 c =
     let at-unpack-all = c .before .before .before .before .before .before in
     let at-if1 = at-unpack-all .before .before .before .before in
     let at-unpack-number = at-if1 .before in
-    unpacks-where (where-done _ _ _ _ _ _ _ _ _ _ (omega (arith, at-unpack-number .unpack-number .ensures, at-if1 .if1 .left)) (at-unpack-all .unpack-all .ensures))
+    where-done _ _ _ _ _ _ _ _ _ _ (omega (arith, at-unpack-number .unpack-number .ensures, at-if1 .if1 .left)) (at-unpack-all .unpack-all .ensures)
 
 pub unpack-spec : {M : Type 1} → statement M
 unpack-spec =
