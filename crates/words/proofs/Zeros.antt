@@ -1,6 +1,5 @@
--- Leading zero bytes. No proof but the claims opens `zeroBytes` elsewhere.
+-- Leading zero bytes. Elsewhere only the proof of `zero_bytes` and the claims open `zeroBytes`.
 use mathlib.Core.Path.{_≡_, refl}
-use mathlib.Core.Bool.{cond}
 use Prim.Native.Nat.{ℕ, zero, suc, _+_, _-_, _*_, _/_, _^_, _≤_, _<_}
 use native.Mathlib.Omega.{arith}
 use native.Mathlib.Nat.{lt-of-not-le, not-le-of-lt, lt-of-le-of-lt, lt-of-lt-of-le, le-trans, pow-suc, pow-le-pow-right}
@@ -52,23 +51,6 @@ zeros-of-fit r w l h =
     either (ltb 0 r)
     (λ p. let k : 7 - zeroBytes r < w = pow-256-lt _ w (lt-of-le-of-lt (zeros-reach r (ltb-true 0 r p) l) h) in omega arith)
     (λ p. omega (arith, zeros-of-zero r (omega (arith, ltb-false 0 r p))))
-
--- how many of the rungs 256 ^ 0 to 256 ^ (k - 1) a word is under
-abbrev pub rungs : ℕ → ℕ → ℕ
-rungs r zero = 0
-rungs r (suc k) = rungs r k + cond (ltb r (256 ^ k)) 1 0
-
-rungs-are-zeros : (r k : ℕ) → r < 2 ^ 64 → k ≤ 8 → rungs r k ≡ zeroBytes r - (8 - k)
-rungs-are-zeros r zero h l = omega (arith, zeros-at-most r)
-rungs-are-zeros r (suc k) h l =
-    let below : rungs r k ≡ zeroBytes r - (8 - k) = rungs-are-zeros r k h (omega arith) in
-    either (ltb r (256 ^ k))
-    (λ e. rw e (omega (arith, below, zeros-of-fit r k h (ltb-true r (256 ^ k) e))))
-    (λ e. rw e (omega (arith, below, pow-256-lt k _ (lt-of-le-of-lt (ltb-false r (256 ^ k) e) (zeros-within r h)))))
-
--- the leading zero bytes of a word, counted on all eight rungs
-pub zeros-by-rungs : (r : ℕ) → r < 2 ^ 64 → zeroBytes r ≡ rungs r 8
-zeros-by-rungs r h = omega (arith, rungs-are-zeros r 8 h (omega arith))
 
 -- a word that isn't zero has a byte that isn't
 pub zeros-some : (r : ℕ) → r < 2 ^ 64 → 0 < r → zeroBytes r ≤ 7

@@ -1,34 +1,17 @@
 // Tools on 64-bit words and on bytes, for the crates above. A tool's `requires` is met by the crate
 // that calls it; the calls of the store itself, in `blocks` and `exams`, have none.
 ghost use mathlib.Core.Path.{_≡_};
-ghost use mathlib.Core.Bool.{cond};
 ghost use Prim.Native.Nat.{_+_, _≤_, _<_};
-ghost use lib.Dec.{ltb};
 ghost use lib.ListN.{length, replicate, take, drop};
 ghost use lib.Seq.{sets};
 ghost use Rattle.words.specs.Words.{sub64, zeroBytes};
 ghost use Rattle.words.specs.Bytes.{lowBytes, field, sameBytes};
 
-// 1 where a word is under a rung, and 0 where it is not.
-fn under(r: u64, rung: u64) -> u8
-    ensures { λ u. ⌜ (u ≡ cond (ltb r rung) 1 0) × (u ≤ 1) ⌝ }
-{
-    if r < rung { 1 } else { 0 }
-}
-
-// The leading zero bytes of a word: the rungs that it is under. They are added up, since the processor
-// would often guess a branch wrongly.
+// The leading zero bytes of a word: an eighth of its leading zero bits.
 pub fn zero_bytes(r: u64) -> u8
     ensures { λ z. ⌜ z ≡ zeroBytes r ⌝ }
 {
-    under(r, 1)
-        + under(r, 256)
-        + under(r, 65536)
-        + under(r, 16777216)
-        + under(r, 4294967296)
-        + under(r, 1099511627776)
-        + under(r, 281474976710656)
-        + under(r, 72057594037927936)
+    (u64::leading_zeros(r) / 8) as u8
 }
 
 // The difference of two words, modulo 2^64.
