@@ -7,7 +7,7 @@ ghost use lib.Seq.{sets};
 ghost use Rattle.words.specs.Words.{sub64, zeroBytes};
 ghost use Rattle.words.specs.Bytes.{lowBytes, field, sameBytes};
 
-// The leading zero bytes of a word: an eighth of its leading zero bits.
+// The leading zero bytes of a word: its leading zero bits, in whole bytes.
 pub fn zero_bytes(r: u64) -> u8
     ensures { λ z. ⌜ z ≡ zeroBytes r ⌝ }
 {
