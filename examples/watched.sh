@@ -11,7 +11,7 @@ watched() {
         if IFS= read -r -t 8 line; then
             [[ $line != 'rt: '*' proved'* ]] || echo "$line"
         elif (($? > 128)); then # read's way to say that the time is over
-            echo "    still proving, $((SECONDS - began)) seconds gone"
+            echo "    still at work, $((SECONDS - began)) seconds gone"
         else
             break
         fi
