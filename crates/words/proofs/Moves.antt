@@ -1,18 +1,19 @@
--- Comparing, copying and moving bytes, one a turn.
-use mathlib.Core.Path.{_≡_, refl, sym, ap, _∙_}
+-- Comparing and copying bytes, one a turn, and moving them, some at a time.
+use mathlib.Core.Path.{_≡_, refl, ap, _∙_}
 use mathlib.Core.Bool.{true, false, _&&_, false≢true}
 use mathlib.Core.List.{List, [], _∷_}
-use Prim.Native.Nat.{ℕ, suc, _+_, _-_, _≤_, _<_}
+use Prim.Native.Nat.{ℕ, suc, _+_, _≤_, _<_}
 use native.Mathlib.Omega.{arith}
 use native.Mathlib.Nat.{add-zero}
 use native.Mathlib.Numerals.{add-one}
 use lib.Dec.{eqb}
-use lib.ListN.{length, getD, set, take, drop, length-set, length-take, length-drop, drop-of-length-le}
-use lib.Seq.{sets, drop-cons, getD-set-other, getD-take, getD-drop, length-take-le}
+use lib.ListN.{length, getD, set, take, drop, length-set, length-drop, drop-of-length-le}
+use lib.Seq.{sets, length-sets, drop-cons, drop-drop, take-add, length-take-le}
 use borrow.Author.Tests.{eq-eqb, ne-eqb, eqb-true}
-use Rattle.words.specs.Bytes.{sameBytes}
+use Rattle.words.specs.Bytes.{Bytes, lowBytes, field, sameBytes}
 use Rattle.words.proofs.Tests.{either}
-use Rattle.words.proofs.Stores.{set-sets}
+use Rattle.words.proofs.Bytes.{field-back}
+use Rattle.words.proofs.Stores.{kept-below, kept-above, sets-sets, join}
 
 -- ---- comparing
 
@@ -76,48 +77,50 @@ copy-on out₀ out src at j h g =
 pub copy-ends : (out₀ out src : List ℕ) (at j : ℕ) → length src ≤ j → Copying out₀ at src out j → out ≡ sets out₀ at src
 copy-ends out₀ out src at j h g = rw (drop-of-length-le src {i = j} h) at (g .same)
 
--- ---- moving up
+-- ---- moving
 
-getD-sets-below : (l : List ℕ) (j : ℕ) (vs : List ℕ) (i : ℕ) → i < j → getD (sets l j vs) i 0 ≡ getD l i 0
-getD-sets-below l j [] i h = refl
-getD-sets-below l j (v ∷ vs) i h = getD-sets-below (set l j v) (suc j) vs i (omega arith) ∙ getD-set-other l j i v 0 (λ e. omega arith)
-
--- of the n bytes, all but the first j are at their new place
-pub record Moving (b₀ : List ℕ) (from to n : ℕ) (b : List ℕ) (j : ℕ) : Type 0 where
-  pub upto : j ≤ n
+-- n bytes are moved from one place to another
+pub record Moved (b₀ : List ℕ) (from to n : ℕ) (b : List ℕ) : Type 0 where
   pub long : length b ≡ length b₀
-  pub same : b ≡ sets b₀ (to + j) (drop j (take n (drop from b₀)))
+  pub is : b ≡ sets b₀ to (take n (drop from b₀))
 
-pub move-starts : (b : List ℕ) (from to n : ℕ) → Moving b from to n b n
-move-starts b from to n =
-    record { upto = omega arith; long = refl; same = rw (drop-of-length-le (take n (drop from b)) {i = n} (simp length-take (omega arith))) }
+pub moved-none : (b : List ℕ) (from to n : ℕ) → n ≡ 0 → Moved b from to n b
+moved-none b from to n e = record { long = refl; is = rw e }
 
-pub move-on : (b₀ b : List ℕ) (from to n j : ℕ) → from ≤ to → to + n ≤ length b₀ → 0 < j → Moving b₀ from to n b j
-    → Moving b₀ from to n (set b (to + (j - 1)) (getD b (from + (j - 1)) 0)) (j - 1)
-move-on b₀ b from to n j h k p g =
-    let x = take n (drop from b₀) in
-    let u : j ≤ n = g .upto in
-    let s : suc (j - 1) ≡ j = omega arith in
-    let t : suc (to + (j - 1)) ≡ to + j = omega arith in
-    let lx : length x ≡ n = length-take-le n (drop from b₀) (simp length-drop (omega arith)) in
-    let v : getD b (from + (j - 1)) 0 ≡ getD x (j - 1) 0 =
-    ap (λ (l : List ℕ). getD l (from + (j - 1)) 0) (g .same)
-    ∙ getD-sets-below b₀ (to + j) (drop j x) (from + (j - 1)) (omega arith)
-    ∙ sym (getD-take n (drop from b₀) (j - 1) 0 (omega arith) ∙ getD-drop from b₀ (j - 1) 0) in
-    let d : drop (j - 1) x ≡ getD x (j - 1) 0 ∷ drop j x = drop-cons x (j - 1) 0 (omega arith) ∙ ap (λ (m : ℕ). getD x (j - 1) 0 ∷ drop m x) s in
-    record {
-      upto = omega arith;
-      long = simp length-set (g .long);
-      same =
-          ap (λ (m : ℕ). set b (to + (j - 1)) m) v
-          ∙ ap (λ (l : List ℕ). set l (to + (j - 1)) (getD x (j - 1) 0)) (g .same)
-          ∙ set-sets b₀ (to + (j - 1)) (getD x (j - 1) 0) (to + j) (drop j x) (omega arith)
-          ∙ ap (λ (m : ℕ). sets (set b₀ (to + (j - 1)) (getD x (j - 1) 0)) m (drop j x)) (sym t)
-          ∙ ap (λ (l : List ℕ). sets b₀ (to + (j - 1)) l) (sym d);
-    }
+length-part : (l : List ℕ) (from n : ℕ) → from + n ≤ length l → length (take n (drop from l)) ≡ n
+length-part l from n h = length-take-le n (drop from l) (simp length-drop (omega arith))
 
-pub move-ends : (b₀ b : List ℕ) (from to n j : ℕ) → j ≤ 0 → Moving b₀ from to n b j → b ≡ sets b₀ to (take n (drop from b₀))
-move-ends b₀ b from to n j h g =
-    let e : j ≡ 0 = omega arith in
-    let f : to + 0 ≡ to = omega arith in
-    (rw e at (g .same)) ∙ rw f
+-- m bytes are read at one place, where they are still as they were, and written at another
+rewritten : (b₀ b b' : List ℕ) (from to m x : ℕ) → from + m ≤ length b₀ → Bytes b₀ → take m (drop from b) ≡ take m (drop from b₀)
+    → x ≡ field m from b → b' ≡ sets b to (lowBytes m x) → b' ≡ sets b to (take m (drop from b₀))
+rewritten b₀ b b' from to m x h s e p q =
+    let w : lowBytes m x ≡ take m (drop from b₀) = rw (p, e) (field-back m from b₀ s h) in
+    rw w at q
+
+-- the first k bytes are moved, then the m behind them
+moved-both : (b₀ c b : List ℕ) (from to k m : ℕ) → from + k ≤ length b₀ → c ≡ sets b₀ to (take k (drop from b₀)) → b ≡ sets c (to + k) (take m (drop (from + k) b₀))
+    → Moved b₀ from to (k + m) b
+moved-both b₀ c b from to k m h p q =
+    let x = take k (drop from b₀) in
+    let y = take m (drop (from + k) b₀) in
+    let e : to + k ≡ to + length x = omega (arith, length-part b₀ from k h) in
+    let is : b ≡ sets b₀ to (take (k + m) (drop from b₀)) = rw (take-add k m (drop from b₀), drop-drop k from b₀) (join b₀ c b x y to (to + k) p q e) in
+    record { long = rw (is, length-sets) refl; is = is }
+
+-- down: the first k bytes are moved; then m more, behind them
+pub moved-down : (b₀ b b' : List ℕ) (from to k m n x : ℕ) → to ≤ from → from + n ≤ length b₀ → n ≡ k + m → Bytes b₀ → Moved b₀ from to k b
+    → x ≡ field m (from + k) b → b' ≡ sets b (to + k) (lowBytes m x) → Moved b₀ from to n b'
+moved-down b₀ b b' from to k m n x o h e s g p q =
+    let still : drop (from + k) b ≡ drop (from + k) b₀ = rw (g .is) (kept-above b₀ to (take k (drop from b₀)) (from + k) (omega (arith, length-part b₀ from k (omega arith)))) in
+    rw e (moved-both b₀ b b' from to k m (omega arith) (g .is) (rewritten b₀ b b' (from + k) (to + k) m x (omega arith) s (rw still) p q))
+
+-- up: the last k bytes are moved; then m more, before them
+pub moved-up : (b₀ b b' : List ℕ) (from to i j k m n x : ℕ) → from ≤ to → to + n ≤ length b₀ → n ≡ m + k → i ≡ from + m → j ≡ to + m → Bytes b₀ → Moved b₀ i j k b
+    → x ≡ field m from b → b' ≡ sets b to (lowBytes m x) → Moved b₀ from to n b'
+moved-up b₀ b b' from to i j k m n x o h e f t s g p q =
+    let u = take m (drop from b₀) in
+    let v = take k (drop (from + m) b₀) in
+    let is : b ≡ sets b₀ (to + m) v = rw (f, t) at (g .is) in
+    let still : take m (drop from b) ≡ u = rw is (kept-below b₀ (to + m) v from m (omega arith)) in
+    let q' : b' ≡ sets (sets b₀ (to + m) v) to u = rw is at (rewritten b₀ b b' from to m x (omega arith) s still p q) in
+    rw e (moved-both b₀ (sets b₀ to u) b' from to m k (omega arith) refl (q' ∙ sets-sets b₀ to u (to + m) v (omega (arith, length-part b₀ from m (omega arith)))))

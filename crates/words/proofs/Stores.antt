@@ -3,10 +3,9 @@ use mathlib.Core.Path.{_≡_, refl, ap, _∙_, sym}
 use mathlib.Core.List.{List, [], _∷_, _++_, append-nil}
 use Prim.Native.Nat.{ℕ, suc, _+_, _-_, _/_, _%_, _≤_, _<_}
 use native.Mathlib.Omega.{arith}
-use native.Mathlib.Nat.{add-zero}
-use lib.ListN.{length, set, drop, replicate, drop-of-length-le}
-use lib.Seq.{sets, set-comm}
-use borrow.Author.Fill.{fill-more}
+use native.Mathlib.Nat.{add-zero, sub-zero}
+use lib.ListN.{length, set, take, drop, replicate, length-set, length-replicate, drop-of-length-le}
+use lib.Seq.{sets, sets-eq, set-comm, take-set-le, drop-set-lt, drop-set-add}
 use Rattle.words.specs.Bytes.{lowBytes}
 
 pub sets-append : (l : List ℕ) (i : ℕ) (vs ws : List ℕ) → sets l i (vs ++ ws) ≡ sets (sets l i vs) (i + length vs) ws
@@ -16,7 +15,7 @@ sets-append l i (v ∷ vs) ws =
     rw e (sets-append (set l i v) (suc i) vs ws)
 
 -- a store below a run of stores
-pub set-sets : (l : List ℕ) (i a j : ℕ) (vs : List ℕ) → i < j → set (sets l j vs) i a ≡ sets (set l i a) j vs
+set-sets : (l : List ℕ) (i a j : ℕ) (vs : List ℕ) → i < j → set (sets l j vs) i a ≡ sets (set l i a) j vs
 set-sets l i a j [] h = refl
 set-sets l i a j (v ∷ vs) h =
     set-sets (set l j v) i a (suc j) vs (omega arith) ∙ ap (λ (x : List ℕ). sets x (suc j) vs) (set-comm l j i v a (λ e. omega arith))
@@ -26,6 +25,21 @@ pub sets-sets : (l : List ℕ) (i : ℕ) (us : List ℕ) (j : ℕ) (vs : List �
 sets-sets l i [] j vs h = refl
 sets-sets l i (u ∷ us) j vs h =
     ap (λ (x : List ℕ). sets x (suc i) us) (set-sets l i u j vs (omega arith)) ∙ sets-sets (set l i u) (suc i) us j vs (omega arith)
+
+-- what lies below a run of stores is as it was
+pub kept-below : (l : List ℕ) (j : ℕ) (vs : List ℕ) (i m : ℕ) → i + m ≤ j → take m (drop i (sets l j vs)) ≡ take m (drop i l)
+kept-below l j [] i m h = refl
+kept-below l j (v ∷ vs) i m h =
+    let e : j ≡ i + (j - i) = omega arith in
+    kept-below (set l j v) (suc j) vs i m (omega arith)
+    ∙ ap (λ (k : ℕ). take m (drop i (set l k v))) e
+    ∙ ap (λ (x : List ℕ). take m x) (drop-set-add i l (j - i) v)
+    ∙ take-set-le m (drop i l) (j - i) v (omega arith)
+
+-- and what lies above it
+pub kept-above : (l : List ℕ) (j : ℕ) (vs : List ℕ) (i : ℕ) → j + length vs ≤ i → drop i (sets l j vs) ≡ drop i l
+kept-above l j [] i h = refl
+kept-above l j (v ∷ vs) i h = kept-above (set l j v) (suc j) vs i (omega arith) ∙ drop-set-lt i l j v (omega arith)
 
 -- ---- writing a number's bytes, one a turn
 
@@ -41,15 +55,61 @@ put-all out at j k x whole h p =
     let e : k - j ≡ 0 = omega arith in
     rw e at p
 
--- ---- clearing a list, one element a turn
+-- ---- eight bytes in a row
 
-pub clear-more : (l l₀ : List ℕ) (i : ℕ) → i < length l₀ → l ≡ replicate i 0 ++ drop i l₀ → set l i 0 ≡ replicate (i + 1) 0 ++ drop (i + 1) l₀
-clear-more l l₀ i h p = ap (λ (k : List ℕ). set k i 0) p ∙ fill-more i 0 l₀ h
+pub eight-stored : (l : List ℕ) (at x : ℕ)
+    → set
+    (set
+    (set
+    (set (set (set (set (set l at (x % 256)) (at + 1) (x / 256 % 256)) (at + 2) (x / 65536 % 256)) (at + 3) (x / 16777216 % 256)) (at + 4) (x / 4294967296 % 256))
+    (at + 5) (x / 1099511627776 % 256))
+    (at + 6) (x / 281474976710656 % 256))
+    (at + 7) (x / 72057594037927936 % 256)
+    ≡ sets l at (lowBytes 8 x)
+eight-stored l at x =
+    let a1 : at + 1 ≡ suc at = omega arith in
+    let a2 : at + 2 ≡ suc (suc at) = omega arith in
+    let a3 : at + 3 ≡ suc (suc (suc at)) = omega arith in
+    let a4 : at + 4 ≡ suc (suc (suc (suc at))) = omega arith in
+    let a5 : at + 5 ≡ suc (suc (suc (suc (suc at)))) = omega arith in
+    let a6 : at + 6 ≡ suc (suc (suc (suc (suc (suc at))))) = omega arith in
+    let a7 : at + 7 ≡ suc (suc (suc (suc (suc (suc (suc at)))))) = omega arith in
+    let d2 : x / 65536 ≡ x / 256 / 256 = omega arith in
+    let d3 : x / 16777216 ≡ x / 256 / 256 / 256 = omega arith in
+    let d4 : x / 4294967296 ≡ x / 256 / 256 / 256 / 256 = omega arith in
+    let d5 : x / 1099511627776 ≡ x / 256 / 256 / 256 / 256 / 256 = omega arith in
+    let d6 : x / 281474976710656 ≡ x / 256 / 256 / 256 / 256 / 256 / 256 = omega arith in
+    let d7 : x / 72057594037927936 ≡ x / 256 / 256 / 256 / 256 / 256 / 256 / 256 = omega arith in
+    rw (a1, a2, a3, a4, a5, a6, a7, d2, d3, d4, d5, d6, d7)
 
-pub clear-all : (l l₀ : List ℕ) (i : ℕ) → length l₀ ≤ i → i ≤ length l₀ → l ≡ replicate i 0 ++ drop i l₀ → l ≡ replicate (length l₀) 0
-clear-all l l₀ i h k p =
-    let e : i ≡ length l₀ = omega arith in
-    p ∙ ap (λ (r : List ℕ). replicate i 0 ++ r) (drop-of-length-le l₀ h) ∙ append-nil (replicate i 0) ∙ ap (λ (n : ℕ). replicate n 0) e
+-- ---- setting a run of elements to zero, one a turn
+
+-- those before i are zero already, and with those from i on the whole run is
+pub record Wiping (l₀ : List ℕ) (from to : ℕ) (l : List ℕ) (i : ℕ) : Type 0 where
+  pub long : length l ≡ length l₀
+  pub same : sets l i (replicate (to - i) 0) ≡ sets l₀ from (replicate (to - from) 0)
+
+pub wipe-starts : (l : List ℕ) (from to : ℕ) → Wiping l from to l from
+wipe-starts l from to = record { long = refl; same = refl }
+
+pub wipe-on : (l₀ l : List ℕ) (from to i : ℕ) → i < to → Wiping l₀ from to l i → Wiping l₀ from to (set l i 0) (i + 1)
+wipe-on l₀ l from to i h g =
+    let e : to - i ≡ suc (to - (i + 1)) = omega arith in
+    let f : i + 1 ≡ suc i = omega arith in
+    record { long = simp length-set (g .long); same = rw f (rw (e, f) at (g .same)) }
+
+pub wipe-ends : (l₀ l : List ℕ) (from to i : ℕ) → to ≤ i → Wiping l₀ from to l i → l ≡ sets l₀ from (replicate (to - from) 0)
+wipe-ends l₀ l from to i h g =
+    let e : to - i ≡ 0 = omega arith in
+    rw e at (g .same)
+
+-- all of a list
+pub clear-ends : (l₀ l : List ℕ) (i : ℕ) → length l₀ ≤ i → Wiping l₀ 0 (length l₀) l i → l ≡ replicate (length l₀) 0
+clear-ends l₀ l i h g =
+    let z : List ℕ = replicate (length l₀) 0 in
+    let n : length z ≡ length l₀ = length-replicate (length l₀) 0 in
+    wipe-ends l₀ l 0 (length l₀) i h g
+    ∙ rw (sub-zero (length l₀), sets-eq z l₀ 0 (omega arith), drop-of-length-le l₀ {i = 0 + length z} (omega arith), append-nil)
 
 -- one run of stores after another
 pub join : (b c d xs ys : List ℕ) (i j : ℕ) → c ≡ sets b i xs → d ≡ sets c j ys → j ≡ i + length xs → d ≡ sets b i (xs ++ ys)

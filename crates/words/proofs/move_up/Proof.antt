@@ -1,60 +1,59 @@
+use Prim.Native.Nat.{_+_, _-_, _≤_}
 use native.Mathlib.Omega.{arith}
 use borrow.Author.Needs.{needs}
-use Rattle.words.proofs.Moves.{Moving, move-starts, move-on, move-ends}
+use Rattle.words.proofs.Moves.{Moved, moved-none, moved-up}
 use Rattle.words.proofs.move_up.Statement.{statement}
 use Rattle.words.proofs.move_up.Tie as tie
 
 abbrev Inv-loop : tie.InvT-loop
-Inv-loop buffer₀ from to n j₀ buffer j = Moving buffer₀ from to n buffer j
+Inv-loop buffer₀ from to n left₀ buffer left = (left ≤ n) × Moved buffer₀ (from + left) (to + left) (n - left) buffer
 
 abbrev μ-loop : tie.MeasureT-loop
-μ-loop buffer₀ from to n j₀ buffer j = j
+μ-loop buffer₀ from to n left₀ buffer left = left
 
 loop-holds : tie.Need-loop-holds Inv-loop μ-loop
-loop-holds c = move-starts _ _ _ _
+loop-holds c = (omega arith, moved-none _ _ _ _ (omega arith))
 
-sub-j : tie.Need-sub-j Inv-loop μ-loop
-sub-j c = search needs
+add-load-eight : tie.Need-add-load-eight Inv-loop μ-loop
+add-load-eight c = search needs
 
-add-buffer : tie.Need-add-buffer Inv-loop μ-loop
-add-buffer c =
-    let at-loop = c .before in
-    omega (arith, at-loop .loop .inv .upto)
+load-eight-requires : tie.Need-load-eight-requires Inv-loop μ-loop
+load-eight-requires c κs = search needs
 
-slice-read-buffer : tie.Need-slice-read-buffer Inv-loop μ-loop
-slice-read-buffer c =
-    let at-loop = c .before .before in
-    omega (arith, at-loop .loop .inv .upto, at-loop .loop .inv .long)
+add-store-eight : tie.Need-add-store-eight Inv-loop μ-loop
+add-store-eight c = search needs
 
-add-buffer-2 : tie.Need-add-buffer-2 Inv-loop μ-loop
-add-buffer-2 c =
-    let at-loop = c .before .before in
-    omega (arith, at-loop .loop .inv .upto)
-
-slice-write-buffer : tie.Need-slice-write-buffer Inv-loop μ-loop
-slice-write-buffer c =
-    let at-loop = c .before .before in
-    omega (arith, at-loop .loop .inv .upto, at-loop .loop .inv .long)
+store-eight-requires : tie.Need-store-eight-requires Inv-loop μ-loop
+store-eight-requires c κs = search needs
 
 loop-less : tie.Need-loop-less Inv-loop μ-loop
 loop-less c = search needs
 
 loop-again : tie.Need-loop-again Inv-loop μ-loop
 loop-again c =
-    let at-loop-test = c .before in
-    let at-loop = at-loop-test .before in
-    let entry = at-loop .before in
-    move-on _ _ _ _ _ _ (entry .pre .0) (entry .pre .1) (at-loop-test .loop-test .taken) (at-loop .loop .inv)
+    let at-store-eight = c .before .before in
+    let at-load-eight = at-store-eight .before .before in
+    let at-loop = at-load-eight .before .before .before in
+    let at-slice-known = at-loop .before in
+    (omega arith, moved-up _ _ _ _ _ _ _ _ 8 _ _ (omega arith) (omega arith) (omega arith) (omega arith) (omega arith) (λ i. at-slice-known .slice-known .given i .fits) (at-loop .loop .inv .1) (at-load-eight .load-eight .ensures) (at-store-eight .store-eight .ensures))
+
+get-bytes-requires : tie.Need-get-bytes-requires Inv-loop μ-loop
+get-bytes-requires c κs = search needs
+
+put-bytes-requires : tie.Need-put-bytes-requires Inv-loop μ-loop
+put-bytes-requires c κs = search needs
 
 same-length : tie.Need-same-length Inv-loop μ-loop
-same-length c =
-    let at-loop = c .before in
-    at-loop .loop .inv .long
+same-length c = search needs
 
 returns : tie.Need-returns Inv-loop μ-loop
 returns c =
-    let at-loop = c .before in
-    move-ends _ _ _ _ _ _ (c .loop-test .left) (at-loop .loop .inv)
+    let at-put-bytes = c .before .before in
+    let at-get-bytes = at-put-bytes .before .before in
+    let at-loop = at-get-bytes .before .before .before in
+    let at-slice-known = at-loop .before in
+    let entry = at-slice-known .before in
+    moved-up _ _ _ _ _ _ _ _ (at-loop .loop .left) (entry .args .n) _ (entry .pre .0) (entry .pre .1) (omega arith) (omega arith) (omega arith) (λ i. at-slice-known .slice-known .given i .fits) (at-loop .loop .inv .1) (at-get-bytes .get-bytes .ensures) (at-put-bytes .put-bytes .ensures) .is
 
 pub move-up-spec : {M : Type 1} → statement M
 move-up-spec =
@@ -63,12 +62,13 @@ move-up-spec =
     Inv-loop
     μ-loop
     loop-holds
-    sub-j
-    add-buffer
-    slice-read-buffer
-    add-buffer-2
-    slice-write-buffer
+    add-load-eight
+    load-eight-requires
+    add-store-eight
+    store-eight-requires
     loop-less
     loop-again
+    get-bytes-requires
+    put-bytes-requires
     same-length
     returns)
