@@ -2,7 +2,7 @@
 use mathlib.Core.Path.{_≡_, refl, sym, ap, _∙_}
 use mathlib.Core.List.{List, [], _∷_, _++_, List·Mem, mem-cast}
 use Prim.Native.Nat.{ℕ, _+_, _^_, _≤_, _<_}
-use lib.ListN.{length, take, drop}
+use lib.ListN.{length, getD, take, drop}
 use Rattle.words.specs.Words.{Words}
 use Rattle.words.specs.Bytes.{Bytes}
 use Rattle.answers.specs.Answers.{over}
@@ -12,13 +12,14 @@ use Rattle.block_rules.specs.declared.Unpacked.{Unpacked}
 use Rattle.block_rules.proofs.Accept.{checks-number}
 use Rattle.blocks.proofs.Claims.{round-trip, pack-numbers, check-numbers, unpack-numbers, pack-one-answer, unpack-one-answer, pack-forgets, unpack-forgets, refused-pack-changes-nothing, refused-unpack-changes-nothing}
 use Rattle.exam_rules.specs.Reading.{examIn, fileIn, entryOf}
+use Rattle.exam_rules.specs.Numbers.{findNumber, blockIn}
 use Rattle.exam_rules.specs.Calls.{located}
-use Rattle.exam_rules.specs.Maps.{Map}
+use Rattle.exam_rules.specs.Maps.{Map, changed}
 use Rattle.exam_rules.specs.declared.Located.{Located}
 use Rattle.exam_rules.specs.declared.Made.{Made}
 use Rattle.exam_rules.proofs.Kept.{found-part}
-use Rattle.exams.proofs.Claims.{MadeOf, created, grown, made-opens, made-fetches, append-fetches, cut-is-never-whole, create-numbers, open-numbers, locate-numbers, fetch-numbers, append-numbers, create-one-answer, fetch-one-answer, append-one-answer, fetch-forgets, append-forgets, refused-create-changes-nothing, refused-locate-tells-nothing, refused-fetch-changes-nothing, refused-append-changes-nothing, own-exam, located-has, fetch-accepts, append-accepts}
-use Rattle.coil.specs.Calls.{CoilOpens, CoilChecks, CoilPacks, CoilUnpacks, CoilCreates, CoilFinds, CoilFetches, CoilAppends}
+use Rattle.exams.proofs.Claims.{MadeOf, created, grown, exchanged, made-opens, made-fetches, append-fetches, replace-fetches, replace-is-afresh, cut-is-never-whole, create-numbers, open-numbers, locate-numbers, fetch-numbers, append-numbers, replace-numbers, create-one-answer, fetch-one-answer, append-one-answer, replace-one-answer, fetch-forgets, append-forgets, replace-forgets, refused-create-changes-nothing, refused-locate-tells-nothing, refused-fetch-changes-nothing, refused-append-changes-nothing, refused-replace-changes-nothing, replace-exchanges, replace-keeps-blocks, freed-bytes-are-zero, own-exam, located-has, fetch-accepts, append-accepts, replace-accepts}
+use Rattle.coil.specs.Calls.{CoilOpens, CoilChecks, CoilPacks, CoilUnpacks, CoilCreates, CoilFinds, CoilFetches, CoilAppends, CoilReplaces}
 
 -- ---- there and back
 
@@ -40,7 +41,16 @@ coil-append-fetches h w v c e q lf ld enough =
     let a = append-fetches h w v c e q lf ld enough in
     (ap (λ (x : Unpacked). x .number) (a .0), ap (λ (x : Unpacked). x .count) (a .0), a .1)
 
--- A file that coil_create made is one made by create and appends, with no map yet. (`copied` of MadeOf: so is every copy of such a file.)
+-- So it gives back what coil_replace put in a slot's place.
+pub coil-replace-fetches : {b : List ℕ} {l exam slot : ℕ} {words fcm dfcm bench b' f' d' bench' f₂ d₂ room f₂' d₂' room' : List ℕ} {r m s n : ℕ} → Bytes b → Words words
+    → CoilReplaces b l exam slot words fcm dfcm bench r b' f' d' bench' m → r ≡ 0
+    → CoilFetches b' m exam slot f₂ d₂ room s f₂' d₂' room' n → length f₂ ≡ length fcm → length d₂ ≡ length dfcm → length words ≤ length room
+    → (s ≡ 0) × (n ≡ length words) × (room' ≡ over words room)
+coil-replace-fetches h v c e q lf ld enough =
+    let a = replace-fetches h v c e q lf ld enough in
+    (ap (λ (x : Unpacked). x .number) (a .0), ap (λ (x : Unpacked). x .count) (a .0), a .1)
+
+-- A file that coil_create made is one made by create, appends and replaces, with no map yet. (`copied` of MadeOf: so is every copy of such a file.)
 pub coil-create-makes : {b b' : List ℕ} {exam t r l : ℕ} → exam < 2 ^ 64 → CoilCreates b exam t r b' l → r ≡ 0 → MadeOf exam t [] b' l
 coil-create-makes w c e = created w c e
 
@@ -49,6 +59,17 @@ pub coil-append-makes : {exam t : ℕ} {ms : List Map} {b : List ℕ} {l slot : 
     → MadeOf exam t ms b l → slot < 2 ^ 32 → Words words → CoilAppends b l exam slot words fcm dfcm bench r b' f' d' bench' m → r ≡ 0
     → MadeOf exam t (ms ++ (record { slot = slot; words = words } ∷ [])) b' m
 coil-append-makes k s w c e = grown k s w c e
+
+-- With coil_replace it has other words in one map.
+pub coil-replace-makes : {exam t : ℕ} {ms : List Map} {b : List ℕ} {l slot : ℕ} {words fcm dfcm bench b' f' d' bench' : List ℕ} {r m : ℕ}
+    → MadeOf exam t ms b l → Words words → CoilReplaces b l exam slot words fcm dfcm bench r b' f' d' bench' m → r ≡ 0 → MadeOf exam t (changed slot words ms) b' m
+coil-replace-makes k w c e = exchanged k w c e
+
+-- So it is byte for byte the file that coil_create and coil_append make afresh from the changed list, where none of those is refused.
+pub coil-replace-is-afresh : (first : List Map) (x : Map) (rest : List Map) {exam t : ℕ} {b c : List ℕ} {l k : ℕ} {words fcm dfcm bench b' f' d' bench' : List ℕ} {r m : ℕ}
+    → MadeOf exam t (first ++ x ∷ rest) b l → Words words → CoilReplaces b l exam (x .slot) words fcm dfcm bench r b' f' d' bench' m → r ≡ 0
+    → MadeOf exam t (first ++ record { slot = x .slot; words = words } ∷ rest) c k → (m ≡ k) × (take m b' ≡ take k c)
+coil-replace-is-afresh first x rest h w q e afresh = replace-is-afresh first x rest h w q e afresh
 
 -- coil_open opens such a file for its exam number.
 pub coil-made-opens : {exam t : ℕ} {ms : List Map} {b : List ℕ} {l r : ℕ} → MadeOf exam t ms b l → CoilOpens b l exam r → r ≡ 0
@@ -111,6 +132,11 @@ pub coil-append-numbers : {b : List ℕ} {l exam slot : ℕ} {words fcm dfcm ben
     → List·Mem r (0 ∷ 4 ∷ 7 ∷ 8 ∷ 9 ∷ 12 ∷ 11 ∷ 1 ∷ 2 ∷ 3 ∷ [])
 coil-append-numbers c = append-numbers c
 
+-- coil_replace answers 0, one of coil_find's numbers, 1, 2 or 3.
+pub coil-replace-numbers : {b : List ℕ} {l exam slot : ℕ} {words fcm dfcm bench b' f' d' bench' : List ℕ} {r m : ℕ} → CoilReplaces b l exam slot words fcm dfcm bench r b' f' d' bench' m
+    → List·Mem r (0 ∷ 4 ∷ 7 ∷ 8 ∷ 9 ∷ 10 ∷ 1 ∷ 2 ∷ 3 ∷ [])
+coil-replace-numbers c = replace-numbers c
+
 -- ---- no second answer
 
 -- Of the number that coil_open answers, the promise admits one value.
@@ -162,6 +188,14 @@ coil-append-one-answer p q =
     let a = append-one-answer p q in
     (ap (λ (x : Made). x .number) (a .0), a .1, a .2, a .3, a .4, ap (λ (x : Made). x .length) (a .0))
 
+-- Of coil_replace's answer, the buffer, both tables, the bench buffer and the lent length, the promise admits one value each.
+pub coil-replace-one-answer : {b : List ℕ} {l exam slot : ℕ} {words fcm dfcm bench b₁ f₁ d₁ n₁ b₂ f₂ d₂ n₂ : List ℕ} {r₁ l₁ r₂ l₂ : ℕ}
+    → CoilReplaces b l exam slot words fcm dfcm bench r₁ b₁ f₁ d₁ n₁ l₁ → CoilReplaces b l exam slot words fcm dfcm bench r₂ b₂ f₂ d₂ n₂ l₂
+    → (r₁ ≡ r₂) × (b₁ ≡ b₂) × (f₁ ≡ f₂) × (d₁ ≡ d₂) × (n₁ ≡ n₂) × (l₁ ≡ l₂)
+coil-replace-one-answer p q =
+    let a = replace-one-answer p q in
+    (ap (λ (x : Made). x .number) (a .0), a .1, a .2, a .3, a .4, ap (λ (x : Made). x .length) (a .0))
+
 -- ---- a refusal puts 0 into every lent number and leaves everything else as it was
 
 -- A refused coil_pack.
@@ -191,6 +225,28 @@ coil-refused-fetch c h = refused-fetch-changes-nothing c h
 pub coil-refused-append : {b : List ℕ} {l exam slot : ℕ} {words fcm dfcm bench b' f' d' bench' : List ℕ} {r m : ℕ} → CoilAppends b l exam slot words fcm dfcm bench r b' f' d' bench' m → (r ≡ 0 → ⊥)
     → (m ≡ 0) × (b' ≡ b) × (f' ≡ fcm) × (d' ≡ dfcm) × (bench' ≡ bench)
 coil-refused-append c h = refused-append-changes-nothing c h
+
+-- A refused coil_replace.
+pub coil-refused-replace : {b : List ℕ} {l exam slot : ℕ} {words fcm dfcm bench b' f' d' bench' : List ℕ} {r m : ℕ} → CoilReplaces b l exam slot words fcm dfcm bench r b' f' d' bench' m → (r ≡ 0 → ⊥)
+    → (m ≡ 0) × (b' ≡ b) × (f' ≡ fcm) × (d' ≡ dfcm) × (bench' ≡ bench)
+coil-refused-replace c h = refused-replace-changes-nothing c h
+
+-- ---- a replace exchanges one block and keeps all else
+
+-- Where coil_replace answers 0, the file that it leaves opens for the same exam number.
+pub coil-replace-opens : {b : List ℕ} {l exam slot : ℕ} {words fcm dfcm bench b' f' d' bench' : List ℕ} {r m o : ℕ} → Bytes b
+    → CoilReplaces b l exam slot words fcm dfcm bench r b' f' d' bench' m → r ≡ 0 → CoilOpens b' m exam o → o ≡ 0
+coil-replace-opens h c e q = q ∙ replace-exchanges h c e .1
+
+-- Every other slot keeps the bytes of its block.
+pub coil-replace-keeps-blocks : {b : List ℕ} {l exam slot : ℕ} {words fcm dfcm bench b' f' d' bench' : List ℕ} {r m : ℕ} → Bytes b
+    → CoilReplaces b l exam slot words fcm dfcm bench r b' f' d' bench' m → r ≡ 0 → (s : ℕ) → (s ≡ slot → ⊥) → findNumber b l exam s ≡ 0 → blockIn b' m s ≡ blockIn b l s
+coil-replace-keeps-blocks h c e s n z = replace-keeps-blocks h c e s n z .1
+
+-- Freed bytes are 0: those between the new end and the old end, where the file got shorter.
+pub coil-freed-bytes-are-zero : {b : List ℕ} {l exam slot : ℕ} {words fcm dfcm bench b' f' d' bench' : List ℕ} {r m : ℕ}
+    → CoilReplaces b l exam slot words fcm dfcm bench r b' f' d' bench' m → r ≡ 0 → (i d : ℕ) → m ≤ i → i < l → getD b' i d ≡ 0
+coil-freed-bytes-are-zero c e i d h k = freed-bytes-are-zero c e i d h k
 
 -- ---- what the tables held before plays no part
 
@@ -226,6 +282,14 @@ coil-append-forgets p q e g z =
     let a = append-forgets p q e g z in
     (ap (λ (x : Made). x .number) (a .0), a .1, a .2, a .3, a .4, ap (λ (x : Made). x .length) (a .0))
 
+-- Two accepted runs of coil_replace: answer, buffer, tables, bench buffer and length are equal.
+pub coil-replace-forgets : {b : List ℕ} {l exam slot : ℕ} {words f₁ d₁ f₂ d₂ bench b₁ f₁' d₁' n₁ b₂ f₂' d₂' n₂ : List ℕ} {r₁ l₁ r₂ l₂ : ℕ}
+    → CoilReplaces b l exam slot words f₁ d₁ bench r₁ b₁ f₁' d₁' n₁ l₁ → CoilReplaces b l exam slot words f₂ d₂ bench r₂ b₂ f₂' d₂' n₂ l₂ → length f₁ ≡ length f₂ → length d₁ ≡ length d₂ → r₁ ≡ 0
+    → (r₁ ≡ r₂) × (b₁ ≡ b₂) × (f₁' ≡ f₂') × (d₁' ≡ d₂') × (n₁ ≡ n₂) × (l₁ ≡ l₂)
+coil-replace-forgets p q e g z =
+    let a = replace-forgets p q e g z in
+    (ap (λ (x : Made). x .number) (a .0), a .1, a .2, a .3, a .4, ap (λ (x : Made). x .length) (a .0))
+
 -- ---- a file opens only for its own exam number
 
 -- Where coil_open answers 0, the exam number in the file is the one asked for, and not 0.
@@ -247,3 +311,8 @@ coil-fetch-own-exam c e = fetch-accepts c .0 e .finds .opens .own
 pub coil-append-own-exam : {b : List ℕ} {l exam slot : ℕ} {words fcm dfcm bench b' f' d' bench' : List ℕ} {r m : ℕ} → CoilAppends b l exam slot words fcm dfcm bench r b' f' d' bench' m → r ≡ 0
     → examIn (take l b) ≡ exam
 coil-append-own-exam c e = append-accepts c .0 e .opens .own
+
+-- Where coil_replace answers 0, the exam number in the file is the one asked for.
+pub coil-replace-own-exam : {b : List ℕ} {l exam slot : ℕ} {words fcm dfcm bench b' f' d' bench' : List ℕ} {r m : ℕ} → CoilReplaces b l exam slot words fcm dfcm bench r b' f' d' bench' m → r ≡ 0
+    → examIn (take l b) ≡ exam
+coil-replace-own-exam c e = replace-accepts c .0 e .finds .opens .own

@@ -1,6 +1,6 @@
 // The calls of the store for C: each is the store's own call, with its number as the answer and what
 // else it tells put into lent numbers. include/coil.h declares them.
-ghost use Rattle.coil.specs.Calls.{CoilOpens, CoilChecks, CoilPacks, CoilUnpacks, CoilCreates, CoilFinds, CoilFetches, CoilAppends};
+ghost use Rattle.coil.specs.Calls.{CoilOpens, CoilChecks, CoilPacks, CoilUnpacks, CoilCreates, CoilFinds, CoilFetches, CoilAppends, CoilReplaces};
 
 // Opens the file in the first bytes of a buffer for an exam number, which must be its own.
 #[no_mangle]
@@ -114,6 +114,26 @@ pub extern "C" fn coil_append(
     ensures { λ r. ⌜ CoilAppends (now (file .entry)) length exam slot (now (words .entry)) (now (fcm .entry)) (now (dfcm .entry)) (now (bench .entry)) r (now (file .exit)) (now (fcm .exit)) (now (dfcm .exit)) (now (bench .exit)) (now («new_length» .exit)) ⌝ }
 {
     let answer = exams::append(file, length, exam, slot, words, fcm, dfcm, bench);
+    *new_length = answer.length;
+    answer.number
+}
+
+// Packs words as the block of a slot that is in the file, and puts it in the place of the slot's.
+#[no_mangle]
+pub extern "C" fn coil_replace(
+    file: &mut [u8],
+    length: usize,
+    exam: u64,
+    slot: u32,
+    words: &[u64],
+    fcm: &mut [u64],
+    dfcm: &mut [u64],
+    bench: &mut [u8],
+    new_length: &mut usize,
+) -> u32
+    ensures { λ r. ⌜ CoilReplaces (now (file .entry)) length exam slot (now (words .entry)) (now (fcm .entry)) (now (dfcm .entry)) (now (bench .entry)) r (now (file .exit)) (now (fcm .exit)) (now (dfcm .exit)) (now (bench .exit)) (now («new_length» .exit)) ⌝ }
+{
+    let answer = exams::replace(file, length, exam, slot, words, fcm, dfcm, bench);
     *new_length = answer.length;
     answer.number
 }

@@ -10,7 +10,6 @@ use Rattle.answers.proofs.Checks.{fails-here, fails-later, last-decides, afterw
 use Rattle.block_rules.specs.Block.{block}
 use Rattle.block_rules.specs.Numbers.{tOf}
 use Rattle.block_rules.specs.Inside.{PacksAll}
-use Rattle.block_rules.proofs.Tables.{t-of-power}
 use Rattle.block_rules.proofs.Lengths.{block-at-most}
 use Rattle.block_rules.proofs.Round.{written-block}
 use Rattle.exam_rules.specs.File.{Entry, entry, entryBytes, directoryBytes, trailerBytes, fileLength, fileBytes, appended}
@@ -27,6 +26,7 @@ use Rattle.exam_rules.proofs.Changes.{change-refused, change-done, makes}
 use Rattle.exam_rules.proofs.Entries.{directory-snoc}
 use Rattle.exam_rules.proofs.Stands.{stands-ends, stands-body, stands-exam, stands-directory}
 use Rattle.exam_rules.proofs.Accept.{Appendable, appendable}
+use Rattle.exam_rules.proofs.Stored.{packed-all, bench-within}
 use Rattle.exam_writing.specs.Inside.{Adding, Adds}
 
 -- ---- the lowest slot that may come next
@@ -105,23 +105,18 @@ module _ (b : List ℕ) (l exam slot : ℕ) (words fcm dfcm bench : List ℕ) wh
       pub opened-appendable : Appendable (tr .entries) next slot (tr .t) (length words) (length fcm) (length dfcm) l (length b) (length bench)
       opened-appendable = appendable _ _ _ _ _ _ _ _ _ _ (t-small (take l b) tr st) (sym r ∙ z)
 
-      t-of : tOf (length fcm) ≡ fileIn (take l b) .t
-      t-of = ap tOf (opened-appendable .stores .size) ∙ t-of-power (tr .t) (t-small (take l b) tr st) ∙ sym (tells-t (take l b) tr st)
-
       module _ (k : ℕ) (fcm' dfcm' bench' : List ℕ) (p : PacksAll (tOf (length fcm)) words bench fcm' dfcm' bench' k) where
-        bench-front : take k bench' ≡ block (tOf (length fcm)) words
-        bench-front = written-block p
+        packs : PacksAll (fileIn (take l b) .t) words bench fcm' dfcm' bench' k
+        packs = rw (← (tells-t (take l b) tr st)) at (packed-all (tr .t) words fcm dfcm bench (t-small (take l b) tr st) (opened-appendable .stores) k fcm' dfcm' bench' p)
 
-        pub bench-within : k ≤ length bench'
-        bench-within =
-            let x = block (tOf (length fcm)) words in
-            omega (arith, p .size, ap length (p .out) ∙ length-append x (drop (length x) bench))
+        pub bench-holds : k ≤ length bench'
+        bench-holds = bench-within packs
 
         pub adding : Adding b (take k bench') (tr .start) (tr .entries)
         adding =
             let c = opened-appendable in
-            let lk : length (take k bench') ≡ length (block (tOf (length fcm)) words) = ap length bench-front in
-            let m = block-at-most (tOf (length fcm)) words in
+            let lk = ap length (written-block packs) in
+            let m = block-at-most (fileIn (take l b) .t) words in
             let e = stands-ends b l exam tr o in
             record { few = c .few; room = omega (arith, c .stores .room); small = omega (arith, c .stores .small) }
 
@@ -131,8 +126,8 @@ module _ (b : List ℕ) (l exam slot : ℕ) (words fcm dfcm bench : List ℕ) wh
             let g = grown b l exam tr o h slot (take k bench') b' size adding s in
             let y = sym append-number ∙ z in
             record {
-              file = change-done _ size _ b b' y (rw (bench-front, t-of) at (g .0)) (rw (bench-front, t-of) at (g .1));
-              fcmLeft = (rw t-of at (p .fcm)) ∙ sym (afterwards-new _ _ fcm y);
-              dfcmLeft = (rw t-of at (p .dfcm)) ∙ sym (afterwards-new _ _ dfcm y);
-              benchLeft = (rw t-of at (p .out)) ∙ sym (afterwards-new _ _ bench y);
+              file = change-done _ size _ b b' y (rw (written-block packs) at (g .0)) (rw (written-block packs) at (g .1));
+              fcmLeft = packs .fcm ∙ sym (afterwards-new _ _ fcm y);
+              dfcmLeft = packs .dfcm ∙ sym (afterwards-new _ _ dfcm y);
+              benchLeft = packs .out ∙ sym (afterwards-new _ _ bench y);
             }

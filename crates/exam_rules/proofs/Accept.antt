@@ -1,7 +1,7 @@
 -- When each call on a file answers 0, in terms of what it is given.
 use mathlib.Core.Path.{_≡_, sym, ap, _∙_}
 use mathlib.Core.List.{List, [], _∷_}
-use Prim.Native.Nat.{ℕ, zero, suc, min, _+_, _*_, _^_, _≤_, _<_}
+use Prim.Native.Nat.{ℕ, zero, suc, min, _+_, _-_, _*_, _^_, _≤_, _<_}
 use native.Mathlib.Omega.{arith}
 use lib.Dec.{eqb}
 use lib.ListN.{length, getD, take}
@@ -17,8 +17,8 @@ use Rattle.block_rules.specs.declared.Unpacked.{Unpacked}
 use Rattle.block_rules.proofs.Tables.{sized-power}
 use Rattle.block_rules.proofs.Accept.{where-number}
 use Rattle.exam_rules.specs.File.{Entry, entry, File, mark}
-use Rattle.exam_rules.specs.Reading.{markIn, editionIn, tIn, examIn, distanceIn, entriesIn, lengthIn, fileIn, indexOf}
-use Rattle.exam_rules.specs.Numbers.{mostBytes, joins, entriesNumber, directoryNumber, openInNumber, slotNumber, findNumber, blockIn, fileTablesNumber, foundNumber, fetchNumber, createNumber, nextSlot, storeNumber, appendNumber}
+use Rattle.exam_rules.specs.Reading.{markIn, editionIn, tIn, examIn, distanceIn, entriesIn, lengthIn, fileIn, indexOf, entryOf}
+use Rattle.exam_rules.specs.Numbers.{mostBytes, joins, entriesNumber, directoryNumber, openInNumber, slotNumber, findNumber, blockIn, fileTablesNumber, foundNumber, fetchNumber, createNumber, nextSlot, storeNumber, appendNumber, replaceNumber}
 use Rattle.exam_rules.specs.Calls.{trailerOf, opened, openedNumber, fetchesNumber, Fetches, appendsNumber}
 use Rattle.exam_rules.specs.declared.Opened.the-variants.{Done}
 use Rattle.exam_rules.proofs.Directory.{heads, heads-keep, joins-equal, equal-joins, edition-is, edition-one}
@@ -249,6 +249,15 @@ storable t n f d kept buffer bench h z =
       small = omega arith;
     }
 
+pub store-passes : (t n f d kept buffer bench : ℕ) → f ≡ 2 ^ t → d ≡ f → n ≤ 65536 → kept + worst n ≤ buffer → kept + worst n ≤ mostBytes → worst n ≤ bench
+    → storeNumber t n f d kept buffer bench ≡ 0
+unfolding storeNumber
+store-passes t n f d kept buffer bench long same few room small enough =
+    sym
+    (fails-later _ _ _ (tables-pass t f d long same)
+    (passes _ _ _ _ (le-leb _ _ few)
+    (passes _ _ _ _ (le-leb (kept + worst n) (min buffer mostBytes) (omega (arith, room, small))) (passes _ _ _ _ (le-leb _ _ enough) all-pass))))
+
 -- ---- append
 
 -- what appending to k entries needs: fewer than 1,024 of them, a slot above the last, and what storing beside the file and an entry needs
@@ -301,14 +310,52 @@ append-takes b l exam slot words fcm dfcm bench z =
 
 pub takes-append : (b : List ℕ) (l exam slot : ℕ) (words fcm dfcm bench : List ℕ) → AppendTakes b l exam slot (length words) (length fcm) (length dfcm) (length bench)
     → appendsNumber b l exam slot words fcm dfcm bench ≡ 0
-unfolding appendNumber storeNumber
+unfolding appendNumber
 takes-append b l exam slot words fcm dfcm bench k =
-    let store =
-    fails-later _ _ _ (tables-pass _ _ _ (k .fcmLong) (k .dfcmLong))
-    (passes _ _ _ _ (le-leb _ _ (k .fewWords))
-    (passes _ _ _ _ (le-leb (l + 12 + worst (length words)) (min (length b) mostBytes) (omega (arith, k .bufferRoom, k .fileRoom))) (passes _ _ _ _ (le-leb _ _ (k .benchRoom)) all-pass))) in
-    let inner = passes _ _ _ _ (lt-ltb _ _ (k .few)) (passes _ _ _ _ (le-leb _ _ (k .above)) (store ∙ last-decides _)) in
+    let store = store-passes _ _ _ _ (l + 12) (length b) _ (k .fcmLong) (k .dfcmLong) (k .fewWords) (k .bufferRoom) (k .fileRoom) (k .benchRoom) in
+    let inner = passes _ _ _ _ (lt-ltb _ _ (k .few)) (passes _ _ _ _ (le-leb _ _ (k .above)) (sym store ∙ last-decides _)) in
     sym (fails-later _ _ _ (takes-open b l exam (k .opens)) (inner ∙ last-decides _))
+
+-- ---- replace
+
+-- what replace needs: a slot that is found, tables of 2 ^ t words, at most 65,536 words, room for the worst block beside the file less its old block
+-- in the buffer and under the limit, and for the worst block in the bench buffer
+pub record ReplaceTakes (b : List ℕ) (l exam slot n f d bench : ℕ) : Type 0 where
+  pub finds : FindTakes b l exam slot
+  pub fcmLong : f ≡ 2 ^ fileIn (take l b) .t
+  pub dfcmLong : d ≡ f
+  pub fewWords : n ≤ 65536
+  pub bufferRoom : l - entryOf slot (fileIn (take l b)) .size + worst n ≤ length b
+  pub fileRoom : l - entryOf slot (fileIn (take l b)) .size + worst n ≤ 16777216
+  pub benchRoom : worst n ≤ bench
+
+pub replace-tells : (b : List ℕ) (l exam slot n f d bench : ℕ) → replaceNumber b l exam slot n f d bench ≡ 0
+    → (findNumber b l exam slot ≡ 0) × Storable (fileIn (take l b) .t) n f d (l - entryOf slot (fileIn (take l b)) .size) (length b) bench
+unfolding replaceNumber
+replace-tells b l exam slot n f d bench z =
+    let a = none-fails _ _ z in
+    let o = find-takes b l exam slot (a .0) .opens in
+    (a .0, storable _ _ _ _ _ _ _ (rw (t-in (take l b)) (o .t)) (none-fails _ _ (a .1) .0))
+
+pub replace-takes : (b : List ℕ) (l exam slot n f d bench : ℕ) → replaceNumber b l exam slot n f d bench ≡ 0 → ReplaceTakes b l exam slot n f d bench
+replace-takes b l exam slot n f d bench z =
+    let a = replace-tells b l exam slot n f d bench z in
+    let k = a .1 in
+    record {
+      finds = find-takes b l exam slot (a .0);
+      fcmLong = k .size;
+      dfcmLong = k .packs .sized .same;
+      fewWords = k .packs .few;
+      bufferRoom = k .room;
+      fileRoom = k .small;
+      benchRoom = k .packs .room;
+    }
+
+pub takes-replace : (b : List ℕ) (l exam slot n f d bench : ℕ) → ReplaceTakes b l exam slot n f d bench → replaceNumber b l exam slot n f d bench ≡ 0
+unfolding replaceNumber
+takes-replace b l exam slot n f d bench k =
+    let store = store-passes _ _ _ _ _ (length b) _ (k .fcmLong) (k .dfcmLong) (k .fewWords) (k .bufferRoom) (k .fileRoom) (k .benchRoom) in
+    sym (fails-later _ _ _ (takes-find b l exam slot (k .finds)) (sym store ∙ last-decides _))
 
 -- ---- the numbers that answers hold
 

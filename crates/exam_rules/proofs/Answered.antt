@@ -3,12 +3,12 @@ use mathlib.Core.Path.{refl}
 use mathlib.Core.List.{List, [], _∷_, List·Mem}
 use mathlib.Core.Bool.{Bool}
 use Prim.Native.Nat.{ℕ, _+_}
-use lib.ListN.{take}
+use lib.ListN.{length, take}
 use Rattle.answers.proofs.OneOf.{one-of-more, no-check-one-of, verdict-one-of, check-one-of, unless-one-of}
 use Rattle.block_rules.proofs.Answered.{block-one-of}
 use Rattle.exam_rules.specs.File.{Entry, File}
 use Rattle.exam_rules.specs.Reading.{fileIn}
-use Rattle.exam_rules.specs.Numbers.{entriesNumber, directoryNumber, fieldsNumber, trailerNumber, openNumber, openInNumber, slotNumber, findNumber, blockIn, fileTablesNumber, foundNumber, fetchNumber, createNumber, storeNumber, appendNumber}
+use Rattle.exam_rules.specs.Numbers.{entriesNumber, directoryNumber, fieldsNumber, trailerNumber, openNumber, openInNumber, slotNumber, findNumber, blockIn, fileTablesNumber, foundNumber, fetchNumber, createNumber, storeNumber, appendNumber, replaceNumber}
 use Rattle.exam_rules.specs.Calls.{appendsNumber}
 
 entries-one-of : (test : ℕ → ℕ → Bool) (lowest from : ℕ) (es : List Entry) (to : ℕ) → List·Mem (entriesNumber test lowest from es to) (0 ∷ 9 ∷ [])
@@ -76,3 +76,10 @@ pub append-one-of : (b : List ℕ) (l exam slot : ℕ) (words fcm dfcm bench : L
 append-one-of b l exam slot words fcm dfcm bench =
     verdict-one-of _ _ (one-of-more _ _ (open-in-one-of b l exam) refl)
     (verdict-one-of _ _ (one-of-more _ _ (append-to-one-of _ _ _ _ _ _ _ _ _ _) refl) (no-check-one-of _))
+
+pub replace-one-of : (b : List ℕ) (l exam slot n f d bench : ℕ)
+    → List·Mem (replaceNumber b l exam slot n f d bench) (0 ∷ 4 ∷ 7 ∷ 8 ∷ 9 ∷ 10 ∷ 1 ∷ 2 ∷ 3 ∷ [])
+unfolding replaceNumber
+replace-one-of b l exam slot n f d bench =
+    verdict-one-of _ _ (one-of-more _ _ (find-one-of b l exam slot) refl)
+    (verdict-one-of _ _ (one-of-more _ _ (store-one-of _ n f d _ (length b) bench) refl) (no-check-one-of _))

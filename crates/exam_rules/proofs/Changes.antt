@@ -1,10 +1,13 @@
 -- What a call answers that makes or changes a file, and what it puts.
-use mathlib.Core.Path.{_≡_, sym, _∙_, ap, ap₂}
-use mathlib.Core.List.{List, _++_, append-assoc}
-use Prim.Native.Nat.{ℕ, _≤_, _+_}
+use mathlib.Core.Path.{_≡_, refl, sym, _∙_, ap, ap₂}
+use mathlib.Core.List.{List, [], _++_, append-assoc}
+use Prim.Native.Nat.{ℕ, _≤_, _+_, _-_}
 use native.Mathlib.Omega.{arith}
-use lib.ListN.{length, take, length-append, drop}
-use lib.Seq.{sets, length-take-le, sets-eq}
+use lib.Dec.{leb}
+use lib.ListN.{length, replicate, take, drop, length-append, length-drop, length-replicate, replicate-append-replicate}
+use lib.Seq.{sets, length-take-le, sets-eq, take-append-seam, drop-append-add, drop-at, drop-drop}
+use borrow.Author.Tests.{leb-true, leb-false}
+use Rattle.words.proofs.Tests.{either}
 use Rattle.answers.specs.Answers.{over}
 use Rattle.answers.proofs.Checks.{afterwards-new, afterwards-old}
 use Rattle.exam_rules.specs.File.{File, fileLength, fileBytes, directoryBytes, trailerBytes}
@@ -46,3 +49,56 @@ makes b b' x f s rest h body room e q =
     append-assoc (f .body) (directoryBytes (f .entries)) _ ∙ ap (λ (y : List ℕ). y ++ end) body ∙ append-assoc (take s b) rest end ∙ ap (λ (y : List ℕ). take s b ++ y) (sym e) in
     let long : length (fileBytes f) ≡ s + length x = ap length whole ∙ length-append (take s b) x ∙ ap (λ (k : ℕ). k + length x) (length-take-le s b h) in
     q ∙ sets-eq x b s (omega (arith, long, length-file f)) ∙ ap₂ (λ (y : List ℕ) (k : ℕ). y ++ drop k b) (sym whole) (sym long)
+
+-- ---- bytes beyond a shorter file
+
+-- what is left over of l bytes, behind x
+zeros-beyond : (x b : List ℕ) (l : ℕ) (z r : List ℕ) → z ≡ replicate l 0 → r ≡ replicate (l - length x) 0 → drop (length x) (z ++ drop l b) ≡ r ++ drop (length x + length r) b
+zeros-beyond x b l z r ez er =
+    let n = length x in
+    let lz : length z ≡ l = ap length ez ∙ length-replicate l 0 in
+    let lr : length r ≡ l - n = ap length er ∙ length-replicate (l - n) 0 in
+    either (leb n l)
+    (λ q.
+    let h = leb-true n l q in
+    let whole : n + (l - n) ≡ l = omega arith in
+    let parts : z ≡ replicate n 0 ++ r = ez ∙ rw er (ap (λ (k : ℕ). replicate k 0) (sym whole) ∙ sym (replicate-append-replicate n (l - n) 0)) in
+    let end : n + length r ≡ l = omega (arith, lr) in
+    ap (λ (y : List ℕ). drop n (y ++ drop l b)) parts
+    ∙ ap (λ (y : List ℕ). drop n y) (append-assoc (replicate n 0) r (drop l b))
+    ∙ drop-at (replicate n 0) (r ++ drop l b) n (length-replicate n 0)
+    ∙ ap (λ (k : ℕ). r ++ drop k b) (sym end))
+    (λ q.
+    let h = leb-false n l q in
+    let no-more : l - n ≡ 0 = omega arith in
+    let none : r ≡ [] = er ∙ ap (λ (k : ℕ). replicate k 0) no-more in
+    let on : n ≡ length z + (n - l) = omega (arith, lz) in
+    let there : l + (n - l) ≡ n + length r = omega (arith, lr) in
+    ap (λ (k : ℕ). drop k (z ++ drop l b)) on
+    ∙ drop-append-add z (drop l b) (n - l)
+    ∙ drop-drop (n - l) l b
+    ∙ ap₂ (λ (y : List ℕ) (k : ℕ). y ++ drop k b) (sym none) there)
+
+-- Where a buffer holds x and then what an old one holds beyond l bytes, and the bytes between the end of x and those l become 0, it holds x over 0s over
+-- the old one.
+pub wipes : (b c d x : List ℕ) (l : ℕ) → length x ≤ length b → l ≤ length b → length c ≡ length b → drop l c ≡ drop l b
+    → d ≡ sets (over x c) (length x) (replicate (l - length x) 0) → d ≡ over x (over (replicate l 0) b)
+wipes b c d x l hx hl long same q =
+    let n = length x in
+    let r : List ℕ = replicate (l - n) 0 in
+    let lr : length r ≡ l - n = length-replicate (l - n) 0 in
+    let m = n + length r in
+    let lc : length (drop n c) ≡ length c - n = length-drop n c in
+    let on : l + (m - l) ≡ m = omega (arith, lr) in
+    let beyond : drop m c ≡ drop m b =
+    ap (λ (k : ℕ). drop k c) (sym on) ∙ sym (drop-drop (m - l) l c) ∙ ap (λ (y : List ℕ). drop (m - l) y) same ∙ drop-drop (m - l) l b ∙ ap (λ (k : ℕ). drop k b) on in
+    let stored : sets (over x c) n r ≡ x ++ r ++ drop m c =
+    sets-eq r (over x c) n (omega (arith, length-append x (drop n c)))
+    ∙ ap₂ (λ (y w : List ℕ). y ++ r ++ w) (take-append-seam x (drop n c)) (drop-append-add x (drop n c) (length r) ∙ drop-drop (length r) n c) in
+    let z : List ℕ = replicate l 0 in
+    let lz : length z ≡ l = length-replicate l 0 in
+    q
+    ∙ stored
+    ∙ append-assoc x r (drop m c)
+    ∙ ap (λ (y : List ℕ). x ++ y) (ap (λ (y : List ℕ). r ++ y) beyond ∙ sym (zeros-beyond x b l z r refl refl))
+    ∙ ap (λ (k : ℕ). x ++ drop n (z ++ drop k b)) (sym lz)

@@ -20,7 +20,7 @@ use Rattle.exam_rules.specs.Numbers.{joins, entriesNumber, openInNumber,
 use Rattle.exam_rules.specs.Pieces.{Piece, blocksOf, entriesOf, fileOfPieces}
 use Rattle.exam_rules.proofs.Directory.{heads, joins-equal, joins-forward, ends-before, length-entries, index-of-entry}
 use Rattle.exam_rules.proofs.Opens.{OpensIn, opens-in, opens-in-keep, trails-ends, directory-is}
-use Rattle.exam_rules.proofs.Parts.{part-of-first}
+use Rattle.exam_rules.proofs.Parts.{no-default, part-of-first}
 use Rattle.exam_rules.proofs.Accept.{find-passes}
 use Rattle.exam_rules.proofs.Holds.{Holds, holds-length}
 use Rattle.exam_rules.proofs.Pieces.{Wholes, length-pieces}
@@ -147,12 +147,6 @@ module _ (exam t : ℕ) (ps : List Piece) {b : List ℕ} {l : ℕ} (h : Holds b 
       finish (entriesIn part) refl (r .pieces) (r .wholes) (r .there) (omega (arith, r .many, length-entries part (entriesIn part) s))
 
 -- ---- the same of a copy, slot by slot
-
--- within a list, the element at a place needs no other to fall back on
-no-default : (es : List Entry) (i : ℕ) (d e : Entry) → i < length es → getD es i d ≡ getD es i e
-no-default [] i d e h = absurd (omega arith)
-no-default (x ∷ es) zero d e h = refl
-no-default (x ∷ es) (suc i) d e h = no-default es i d e (omega arith)
 
 module _ (exam t : ℕ) (ps : List Piece) {b : List ℕ} {l : ℕ} (h : Holds b l (fileOfPieces exam t ps)) (ws : Wholes ps) (k asked : ℕ) (short : k < l) (c : List ℕ)
     (same : take k c ≡ take k b) (z : openInNumber c k asked ≡ 0) where

@@ -92,9 +92,10 @@ module _ (test : ℕ → ℕ → Bool) where
       let n : i < length es = omega arith in
       rw (ne-eqb (e .slot) (getD es i d .slot) (λ q. omega (arith, each-keeps _ _ es to i d (k .rest) n .0))) (ap suc (index-is _ _ es to i d (k .rest) n))
 
--- a test by which what comes next starts no earlier than what came before ends
+-- a test by which what comes next starts no earlier than what came before ends, wherever the two stand together
 pub record Forward (test : ℕ → ℕ → Bool) : Type 0 where
   pub up : (end next : ℕ) → test end next ≡ true → end ≤ next
+  pub along : (end next old n : ℕ) → old ≤ end → test end next ≡ true → test (end + n - old) (next + n - old) ≡ true
 
 module _ {test : ℕ → ℕ → Bool} (forward : Forward test) where
   pub ends-before : (lowest from : ℕ) (es : List Entry) (to : ℕ) → entriesNumber test lowest from es to ≡ 0 → from ≤ to
@@ -108,6 +109,21 @@ module _ {test : ℕ → ℕ → Bool} (forward : Forward test) where
   within lowest from (e ∷ es) to zero d z h = ends-before _ _ es to (heads test lowest from e es to z .rest)
   within lowest from (e ∷ es) to (suc i) d z h = within _ _ es to i d (heads test lowest from e es to z .rest) (omega arith)
 
+  -- entries start in order, each behind the end of those before
+  starts-behind : (lowest from : ℕ) (es : List Entry) (to j : ℕ) (d : Entry) → entriesNumber test lowest from es to ≡ 0 → j < length es → from ≤ getD es j d .offset
+  starts-behind lowest from [] to j d z h = absurd (omega arith)
+  starts-behind lowest from (e ∷ es) to zero d z h = forward .up _ _ (heads test lowest from e es to z .joined)
+  starts-behind lowest from (e ∷ es) to (suc j) d z h =
+      let k = heads test lowest from e es to z in
+      omega (arith, forward .up _ _ (k .joined), starts-behind (e .slot + 1) (e .offset + e .size) es to j d (k .rest) (omega arith))
+
+  in-order : (lowest from : ℕ) (es : List Entry) (to i j : ℕ) (d : Entry) → entriesNumber test lowest from es to ≡ 0 → i < j → j < length es
+      → getD es i d .offset + getD es i d .size ≤ getD es j d .offset
+  in-order lowest from [] to i j d z h k = absurd (omega arith)
+  in-order lowest from (e ∷ es) to i zero d z h k = absurd (omega arith)
+  in-order lowest from (e ∷ es) to zero (suc j) d z h k = starts-behind (e .slot + 1) (e .offset + e .size) es to j d (heads test lowest from e es to z .rest) (omega arith)
+  in-order lowest from (e ∷ es) to (suc i) (suc j) d z h k = in-order (e .slot + 1) (e .offset + e .size) es to i j d (heads test lowest from e es to z .rest) (omega arith) (omega arith)
+
 -- ---- the test of edition 1
 
 pub joins-equal : (end next : ℕ) → joins end next ≡ true → end ≡ next
@@ -119,7 +135,11 @@ unfolding joins
 equal-joins end next e = eq-eqb end next e
 
 pub joins-forward : Forward joins
-joins-forward = record { up = λ end next e. omega (arith, joins-equal end next e) }
+joins-forward =
+    record {
+      up = λ end next e. omega (arith, joins-equal end next e);
+      along = λ end next old n h e. equal-joins _ _ (ap (λ (k : ℕ). k + n - old) (joins-equal end next e));
+    }
 
 -- ---- the rule, as the calls use it
 
@@ -160,3 +180,9 @@ block-long f i d z h = each-keeps joins 0 0 (f .entries) (length (f .body)) i d 
 pub index-of-entry : (f : File) (i : ℕ) (d : Entry) → directoryNumber f ≡ 0 → i < length (f .entries) → indexOf (getD (f .entries) i d .slot) (f .entries) ≡ i
 unfolding directoryNumber
 index-of-entry f i d z h = index-is joins 0 0 (f .entries) (length (f .body)) i d z h
+
+-- blocks stand in order, none within another
+pub blocks-in-order : (f : File) (i j : ℕ) (d : Entry) → directoryNumber f ≡ 0 → i < j → j < length (f .entries)
+    → getD (f .entries) i d .offset + getD (f .entries) i d .size ≤ getD (f .entries) j d .offset
+unfolding directoryNumber
+blocks-in-order f i j d z h k = in-order joins-forward 0 0 (f .entries) (length (f .body)) i j d z h k

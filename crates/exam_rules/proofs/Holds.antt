@@ -1,4 +1,4 @@
--- A buffer that holds a file: what create and append leave in it, and what opening and reading it tell.
+-- A buffer that holds a file: what create, append and replace leave in it, and what opening and reading it tell.
 use mathlib.Core.Path.{_≡_, sym, ap, _∙_}
 use mathlib.Core.List.{List, [], _∷_, _++_}
 use Prim.Native.Nat.{ℕ, _+_, _^_, _≤_, _<_}
@@ -10,17 +10,18 @@ use Rattle.answers.specs.Answers.{over}
 use Rattle.answers.proofs.Checks.{none-fails, afterwards-new}
 use Rattle.block_rules.specs.Block.{block}
 use Rattle.block_rules.proofs.Lengths.{length-block, block-at-most}
-use Rattle.exam_rules.specs.File.{entry, File, fileLength, fileBytes, empty, appended}
-use Rattle.exam_rules.specs.Reading.{fileIn}
+use Rattle.exam_rules.specs.File.{entry, File, fileLength, fileBytes, empty, appended, replaced}
+use Rattle.exam_rules.specs.Reading.{fileIn, indexOf, entryOf}
 use Rattle.exam_rules.specs.Numbers.{mostBytes, openInNumber, nextSlot}
-use Rattle.exam_rules.specs.Calls.{made, Changes, Appends}
+use Rattle.exam_rules.specs.Calls.{made, Changes, Appends, Replaces}
 use Rattle.exam_rules.specs.declared.Made.{Made}
 use Rattle.exam_rules.proofs.Directory.{edition-one, directory-empty, directory-more}
 use Rattle.exam_rules.proofs.Opens.{parts-long, opens-in}
 use Rattle.exam_rules.proofs.Lengths.{length-file}
 use Rattle.exam_rules.proofs.Changes.{changes-number}
-use Rattle.exam_rules.proofs.Accept.{append-takes}
+use Rattle.exam_rules.proofs.Accept.{append-takes, find-tells, replace-tells}
 use Rattle.exam_rules.proofs.Back.{Good, parts-back, opens-in-back}
+use Rattle.exam_rules.proofs.Resized.{length-resized, length-replaced, directory-replaced, smalls-replaced}
 
 -- ---- files that keep the rules stay so
 
@@ -39,6 +40,20 @@ good-more f slot b g s n h l z =
       size = omega arith;
       smalls = each-more (g .smalls) (record { slot = s; offset = omega arith; size = omega arith });
       directory = directory-more f slot b (g .directory) h l;
+    }
+
+pub good-replaced : (f : File) (slot : ℕ) (b : List ℕ) → Good f → indexOf slot (f .entries) < length (f .entries) → 8 ≤ length b
+    → fileLength (replaced f (entryOf slot f) b) ≤ mostBytes → Good (replaced f (entryOf slot f) b)
+good-replaced f slot b g h l z =
+    record {
+      edition = g .edition;
+      t = g .t;
+      named = g .named;
+      exam = g .exam;
+      few = omega (arith, length-resized (entryOf slot f .slot) (length b) (f .entries), g .few);
+      size = z;
+      smalls = smalls-replaced f slot b (g .directory) h l (omega arith) (g .smalls);
+      directory = directory-replaced f slot b (g .directory) h l;
     }
 
 pub good-empty : (exam t : ℕ) → t ≤ 16 → 0 < exam → exam < 2 ^ 64 → Good (empty exam t)
@@ -92,3 +107,17 @@ appended-holds {b} {l} {exam} {slot} {words} {fcm} {dfcm} {bench} g w c e =
     changed-holds (c .file) e
     (good-more f slot (block (f .t) words) g w (k .few) (k .above) (omega (arith, length-block (f .t) words))
     (omega (arith, k .fileRoom, block-at-most (f .t) words, parts-long (take l b) (o .is .trailer), o .long)))
+
+-- so does an accepted replace, with another block in its slot's place
+pub replaced-holds : {b : List ℕ} {l exam slot : ℕ} {words fcm dfcm bench b' fcm' dfcm' bench' : List ℕ} {r : Made} → Good (fileIn (take l b))
+    → Replaces b l exam slot words fcm dfcm bench r b' fcm' dfcm' bench' → r .number ≡ 0
+    → Holds b' (r .length) (replaced (fileIn (take l b)) (entryOf slot (fileIn (take l b))) (block (fileIn (take l b) .t) words))
+replaced-holds {b} {l} {exam} {slot} {words} {fcm} {dfcm} {bench} g c e =
+    let f = fileIn (take l b) in
+    let blk = block (f .t) words in
+    let k = replace-tells b l exam slot (length words) (length fcm) (length dfcm) (length bench) (sym (changes-number (c .file)) ∙ e) in
+    let o = find-tells b l exam slot (k .0) in
+    let i = opens-in b l exam (o .0) in
+    changed-holds (c .file) e
+    (good-replaced f slot blk g (o .1) (omega (arith, length-block (f .t) words))
+    (omega (arith, length-replaced f slot blk (g .directory) (o .1), k .1 .small, block-at-most (f .t) words, parts-long (take l b) (i .is .trailer), i .long)))

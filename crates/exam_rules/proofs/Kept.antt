@@ -39,7 +39,7 @@ smalls-read f (suc n) at h =
     })
     (smalls-read f n (at + 12) h)
 
-good-read : (f : List ℕ) (exam : ℕ) → Bytes f → Opens f exam → Good (fileIn f)
+pub good-read : (f : List ℕ) (exam : ℕ) → Bytes f → Opens f exam → Good (fileIn f)
 unfolding fileIn
 good-read f exam h o =
     record {

@@ -7,10 +7,13 @@ pub mod Entries
 pub mod Stands
 pub mod Accept
 pub mod Answered
+pub mod Stored
 pub mod Back
+pub mod Resized
 pub mod Holds
+pub mod Kept
+pub mod Exchanged
 pub mod Pieces
 pub mod Maps
 pub mod Cut
-pub mod Kept
 pub mod Claims

@@ -30,6 +30,12 @@ part-of-first size (suc o) zero f h = absurd (omega arith)
 part-of-first size (suc o) (suc k) [] h = refl
 part-of-first size (suc o) (suc k) (x ∷ f) h = part-of-first size o k f (omega arith)
 
+-- within a list, the element at a place needs no other to fall back on
+pub no-default : (es : List Entry) (i : ℕ) (d e : Entry) → i < length es → getD es i d ≡ getD es i e
+no-default [] i d e h = absurd (omega arith)
+no-default (x ∷ es) zero d e h = refl
+no-default (x ∷ es) (suc i) d e h = no-default es i d e (omega arith)
+
 -- ---- a file that is open
 
 module _ (f : List ℕ) (tr : Trailer) (st : Standing f tr) where

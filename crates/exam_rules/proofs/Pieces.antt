@@ -106,7 +106,7 @@ module _ {b : List ℕ} {l exam t : ℕ} {p : Piece} (h : HoldsPiece b l exam t 
   below : length (h .first) < length (file .entries)
   below = omega (arith, length-pieces 0 (h .first ++ p ∷ h .rest), length-append (h .first) (p ∷ h .rest))
 
-  slot-index : indexOf (p .slot) (file .entries) ≡ length (h .first)
+  pub slot-index : indexOf (p .slot) (file .entries) ≡ length (h .first)
   slot-index = rw (entry-at its) at (index-of-entry file (length (h .first)) its (h .holds .good .directory) below)
 
   -- its slot is found

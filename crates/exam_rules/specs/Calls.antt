@@ -2,15 +2,15 @@
 use mathlib.Core.Path.{_≡_}
 use Prim.Native.Nat.{ℕ}
 use mathlib.Core.List.{List, [], _∷_}
-use lib.ListN.{length, take}
+use lib.ListN.{length, replicate, take}
 use Rattle.answers.specs.Answers.{firstFailure, afterwards, over}
 use Rattle.block_rules.specs.Predictors.{Memory, cleared, after}
 use Rattle.block_rules.specs.Block.{block}
 use Rattle.block_rules.specs.Calls.{UnpacksWhere}
 use Rattle.block_rules.specs.declared.Unpacked.{Unpacked}
-use Rattle.exam_rules.specs.File.{File, fileLength, fileBytes, empty, appended}
+use Rattle.exam_rules.specs.File.{File, fileLength, fileBytes, empty, appended, replaced}
 use Rattle.exam_rules.specs.Reading.{fileIn, entryOf}
-use Rattle.exam_rules.specs.Numbers.{openInNumber, findNumber, fetchNumber, blockIn, createNumber, appendNumberTo}
+use Rattle.exam_rules.specs.Numbers.{openInNumber, findNumber, fetchNumber, blockIn, createNumber, appendNumberTo, replaceNumber}
 use Rattle.exam_rules.specs.declared.Located.{Located}
 use Rattle.exam_rules.specs.declared.Made.{Made}
 use Rattle.exam_rules.specs.declared.Trailer.{Trailer}
@@ -110,3 +110,28 @@ module _ (b : List ℕ) (l exam slot : ℕ) (words fcm dfcm bench : List ℕ) wh
     pub fcmLeft : fcm' ≡ afterwards appendsNumber (appendsMemory .fcm) fcm
     pub dfcmLeft : dfcm' ≡ afterwards appendsNumber (appendsMemory .dfcm) dfcm
     pub benchLeft : bench' ≡ afterwards appendsNumber (over appendsBlock bench) bench
+
+-- a buffer whose old file of l bytes is set to 0, where the call answers 0: what the new file does not cover of it stays 0
+abbrev pub wiped : ℕ → ℕ → List ℕ → List ℕ
+wiped k l b = afterwards k (over (replicate l 0) b) b
+
+-- replace(file, length, exam, slot, words, fcm, dfcm, bench): the file with the block of the words in the place of the slot's, the tables as pack
+-- leaves them, the block in the bench
+module _ (b : List ℕ) (l exam slot : ℕ) (words fcm dfcm bench : List ℕ) where
+  abbrev pub replacesNumber : ℕ
+  replacesNumber = replaceNumber b l exam slot (length words) (length fcm) (length dfcm) (length bench)
+
+  abbrev pub replacesT : ℕ
+  replacesT = fileIn (take l b) .t
+
+  abbrev pub replacesBlock : List ℕ
+  replacesBlock = block replacesT words
+
+  abbrev pub replacesMemory : Memory
+  replacesMemory = after replacesT (cleared replacesT) words
+
+  pub record Replaces (r : Made) (b' fcm' dfcm' bench' : List ℕ) : Type 0 where
+    pub file : Changes replacesNumber (replaced (fileIn (take l b)) (entryOf slot (fileIn (take l b))) replacesBlock) (wiped replacesNumber l b) r b'
+    pub fcmLeft : fcm' ≡ afterwards replacesNumber (replacesMemory .fcm) fcm
+    pub dfcmLeft : dfcm' ≡ afterwards replacesNumber (replacesMemory .dfcm) dfcm
+    pub benchLeft : bench' ≡ afterwards replacesNumber (over replacesBlock bench) bench

@@ -1,6 +1,8 @@
 -- The exam file: its parts and their bytes. Blocks from offset 0, then the directory, then the trailer.
-use Prim.Native.Nat.{ℕ, _+_, _*_}
-use mathlib.Core.List.{List, [], _∷_, _++_}
+use Prim.Native.Nat.{ℕ, _+_, _-_, _*_}
+use mathlib.Core.List.{List, [], _∷_, _++_, map}
+use mathlib.Core.Bool.{cond}
+use lib.Dec.{eqb}
 use lib.ListN.{length, take, drop}
 use Rattle.words.specs.Bytes.{lowBytes}
 
@@ -66,4 +68,24 @@ appended f slot b =
       exam = f .exam;
       body = f .body ++ b;
       entries = f .entries ++ (entry slot (length (f .body)) (length b) ∷ []);
+    }
+
+-- an entry behind a block that had `old` bytes and has n: its offset moves by the difference
+abbrev pub moved : ℕ → ℕ → Entry → Entry
+moved old n e = entry (e .slot) (e .offset + n - old) (e .size)
+
+-- entries once the block of a slot has n bytes: its entry has the new size, each later offset moves by the difference, all else is kept
+abbrev pub resized : ℕ → ℕ → List Entry → List Entry
+resized slot n [] = []
+resized slot n (e ∷ es) = cond (eqb (e .slot) slot) (entry (e .slot) (e .offset) n ∷ map (moved (e .size) n) es) (e ∷ resized slot n es)
+
+-- a file with the block b in the place of an entry's block: at the entry's own offset, where the entry's own size stood
+abbrev pub replaced : File → Entry → List ℕ → File
+replaced f e b =
+    record {
+      edition = f .edition;
+      t = f .t;
+      exam = f .exam;
+      body = take (e .offset) (f .body) ++ b ++ drop (e .offset + e .size) (f .body);
+      entries = resized (e .slot) (length b) (f .entries);
     }

@@ -1,6 +1,8 @@
 -- The file of a list of maps: what create and then an append for each map make.
 use Prim.Native.Nat.{ℕ}
-use mathlib.Core.List.{List, map}
+use mathlib.Core.List.{List, [], _∷_, map}
+use mathlib.Core.Bool.{cond}
+use lib.Dec.{eqb}
 use Rattle.block_rules.specs.Block.{block}
 use Rattle.exam_rules.specs.File.{File}
 use Rattle.exam_rules.specs.Pieces.{Piece, fileOfPieces}
@@ -17,3 +19,8 @@ pieceOf t m = record { slot = m .slot; block = block t (m .words) }
 -- the file of maps: the file of their pieces
 abbrev pub fileOf : ℕ → ℕ → List Map → File
 fileOf exam t ms = fileOfPieces exam t (map (pieceOf t) ms)
+
+-- the changed list of maps: other words for the map of a slot
+abbrev pub changed : ℕ → List ℕ → List Map → List Map
+changed slot words [] = []
+changed slot words (m ∷ ms) = cond (eqb (m .slot) slot) (record { slot = m .slot; words = words } ∷ ms) (m ∷ changed slot words ms)

@@ -1,5 +1,5 @@
 -- The numbers that the file's calls answer, in order; the first failure answers.
-use Prim.Native.Nat.{ℕ, min, _+_, _*_, _^_}
+use Prim.Native.Nat.{ℕ, min, _+_, _-_, _*_, _^_}
 use mathlib.Core.List.{List, [], _∷_}
 use mathlib.Core.Bool.{Bool}
 use lib.Dec.{leb, ltb, eqb}
@@ -155,3 +155,11 @@ appendNumber k next slot t n f d l buffer bench =
 -- the same, for the file with these parts
 abbrev pub appendNumberTo : File → ℕ → ℕ → ℕ → ℕ → ℕ → ℕ → ℕ → ℕ
 appendNumberTo file slot n f d l buffer bench = appendNumber (length (file .entries)) (nextSlot 0 (file .entries)) slot (file .t) n f d l buffer bench
+
+-- replace the block of a slot by one of n words, with a bench buffer of so many bytes: find, then 1, 2, 3, as the file less its old block is kept
+unfoldable pub replaceNumber : List ℕ → ℕ → ℕ → ℕ → ℕ → ℕ → ℕ → ℕ → ℕ
+replaceNumber b l exam slot n f d bench =
+    firstFailure
+    (findNumber b l exam slot
+    ∷ storeNumber (fileIn (take l b) .t) n f d (l - entryOf slot (fileIn (take l b)) .size) (length b) bench
+    ∷ [])

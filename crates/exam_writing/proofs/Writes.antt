@@ -1,12 +1,12 @@
 -- Writing a trailer, an entry, an empty file, a block more.
-use mathlib.Core.Path.{_≡_, refl, sym, _∙_, ap}
+use mathlib.Core.Path.{_≡_, refl, sym, _∙_}
 use mathlib.Core.List.{List, _++_}
 use Prim.Native.Nat.{ℕ, _+_, _*_}
 use native.Mathlib.Omega.{arith}
 use lib.ListN.{length, length-append, take, drop, length-drop}
 use lib.Seq.{sets, length-take-le}
 use Rattle.words.specs.Bytes.{lowBytes}
-use Rattle.words.proofs.Stores.{join, sets-sets}
+use Rattle.words.proofs.Stores.{join, put-before}
 use Rattle.answers.proofs.Checks.{sets-over}
 use Rattle.exam_rules.specs.File.{entry, entryBytes, mark, trailerBytes, fileBytes, empty}
 use Rattle.exam_rules.specs.Numbers.{createNumber}
@@ -60,8 +60,7 @@ adds b blk b1 b2 b3 b4 start n slot edition t exam h p1 p2 p3 p4 =
     let d = take (12 * n) (drop start b) in
     let ent = entryBytes (entry slot start (length blk)) in
     let ld : length d ≡ 12 * n = length-take-le (12 * n) (drop start b) (simp length-drop (omega (arith, h .room))) in
-    let q2 : b2 ≡ sets (sets b start blk) (start + length blk) d = p2 ∙ ap (λ (l : List ℕ). sets l start blk) p1 ∙ sets-sets b start blk (start + length blk) d (omega arith) in
-    let q : b2 ≡ sets b start (blk ++ d) = join b (sets b start blk) b2 blk d start _ refl q2 refl in
+    let q : b2 ≡ sets b start (blk ++ d) = put-before b b1 b2 blk d start p1 p2 in
     let q3 : b3 ≡ sets b start (blk ++ d ++ ent) = join b b2 b3 (blk ++ d) ent start _ q p3 (simp length-append (omega arith)) in
     record {
       end = refl;

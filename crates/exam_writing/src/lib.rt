@@ -10,7 +10,7 @@ ghost use Rattle.exam_writing.specs.Inside.{Adding, Adds};
 use exam_rules::Made;
 
 // Writes a trailer of 32 bytes at a place.
-fn put_trailer(
+pub fn put_trailer(
     out: &mut [u8],
     at: usize,
     edition: usize,

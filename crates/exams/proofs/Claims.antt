@@ -1,10 +1,10 @@
--- What is promised of create, open, find, locate, fetch and append, each promise with one line of plain words.
+-- What is promised of create, open, find, locate, fetch, append and replace, each promise with one line of plain words.
 use mathlib.Core.Path.{_≡_, refl, sym, ap, _∙_}
 use mathlib.Core.Logic.{_↔_}
 use mathlib.Core.List.{List, [], _∷_, _++_, map, map-append, List·Mem, mem-cast}
 use Prim.Native.Nat.{ℕ, _+_, _^_, _≤_, _<_}
 use native.Mathlib.Omega.{arith}
-use lib.ListN.{length, take, drop, length-map}
+use lib.ListN.{length, getD, take, drop, length-map}
 use Rattle.words.specs.Words.{Words}
 use Rattle.words.specs.Bytes.{Bytes}
 use Rattle.words.proofs.Each.{Each, none, each-more, each-at}
@@ -13,11 +13,11 @@ use Rattle.answers.proofs.Checks.{afterwards-new, afterwards-old}
 use Rattle.block_rules.specs.Block.{block}
 use Rattle.block_rules.specs.Numbers.{blockNumber}
 use Rattle.block_rules.specs.declared.Unpacked.{Unpacked}
-use Rattle.exam_rules.specs.File.{File, fileLength, fileBytes, appended}
+use Rattle.exam_rules.specs.File.{entry, File, fileLength, fileBytes, appended, replaced}
 use Rattle.exam_rules.specs.Reading.{tIn, examIn, distanceIn, entriesIn, lengthIn, fileIn, entryOf}
 use Rattle.exam_rules.specs.Numbers.{openInNumber, findNumber, blockIn}
-use Rattle.exam_rules.specs.Calls.{trailerOf, opened, openedNumber, openedT, openedEntries, openedStart, Finds, located, Fetches, Creates, appendsNumber, Appends}
-use Rattle.exam_rules.specs.Maps.{Map, pieceOf, fileOf}
+use Rattle.exam_rules.specs.Calls.{trailerOf, opened, openedNumber, openedT, openedEntries, openedStart, Finds, located, Fetches, Creates, appendsNumber, Appends, replacesNumber, Replaces}
+use Rattle.exam_rules.specs.Maps.{Map, pieceOf, fileOf, changed}
 use Rattle.exam_rules.specs.declared.Located.{Located}
 use Rattle.exam_rules.specs.declared.Made.{Made}
 use Rattle.exam_rules.specs.declared.Opened.{Opened}
@@ -25,13 +25,14 @@ use Rattle.exam_rules.specs.declared.Opened.the-variants.{Done, Refused}
 use Rattle.block_rules.proofs.Accept.{where-nothing, where-one-answer, where-forgets}
 use Rattle.exam_rules.proofs.Opens.{opens-in, t-in, body-long, entries-many}
 use Rattle.exam_rules.proofs.Changes.{change-one-answer, changes-number, changes-none}
-use Rattle.exam_rules.proofs.Accept.{OpenTakes, open-takes, takes-open, FindTakes, find-takes, takes-find, FetchTakes, fetch-takes, takes-fetch, takes-create, AppendTakes, append-takes, takes-append, opened-number, opened-done, fetches-number, CreateTakes, create-takes}
-use Rattle.exam_rules.proofs.Answered.{open-in-one-of, find-one-of, fetch-one-of, create-one-of, append-one-of}
+use Rattle.exam_rules.proofs.Accept.{OpenTakes, open-takes, takes-open, FindTakes, find-takes, takes-find, FetchTakes, fetch-takes, takes-fetch, takes-create, AppendTakes, append-takes, takes-append, ReplaceTakes, replace-takes, takes-replace, opened-number, opened-done, fetches-number, CreateTakes, create-takes}
+use Rattle.exam_rules.proofs.Answered.{open-in-one-of, find-one-of, fetch-one-of, create-one-of, append-one-of, replace-one-of}
 use Rattle.exam_rules.proofs.Holds.{Holds, holds-length, holds-parts, holds-opens, copied-holds}
 use Rattle.exam_rules.proofs.Pieces.{length-pieces, created-pieces, appended-pieces, block-fetched, piece-found, piece-block, piece-t}
-use Rattle.exam_rules.proofs.Maps.{Fit, map-reads, maps-whole, maps-piece}
+use Rattle.exam_rules.proofs.Maps.{Fit, map-reads, maps-whole, maps-piece, changed-at, changed-maps, changed-fit}
 use Rattle.exam_rules.proofs.Cut.{never-all-whole}
 use Rattle.exam_rules.proofs.Kept.{found-long, found-size, found-within, found-part, more-holds, more-opens, slot-kept, slot-new}
+use Rattle.exam_rules.proofs.Exchanged.{exchanged-holds, exchanged-opens, exchanged-length, same-slots, kept-beside, place-before, place-behind, slot-entry, slot-exchanged, freed-zero, beyond-stays}
 
 -- ---- no second answer
 
@@ -64,9 +65,17 @@ append-one-answer p q =
     let f = change-one-answer (p .file) (q .file) in
     (f .0, f .1, p .fcmLeft ∙ sym (q .fcmLeft), p .dfcmLeft ∙ sym (q .dfcmLeft), p .benchLeft ∙ sym (q .benchLeft))
 
+-- Of replace's answer, of the file, of both tables and of the bench buffer, refused or not, the promise admits one value each.
+pub replace-one-answer : {b : List ℕ} {l exam slot : ℕ} {words fcm dfcm bench b₁ f₁ d₁ n₁ b₂ f₂ d₂ n₂ : List ℕ} {r₁ r₂ : Made}
+    → Replaces b l exam slot words fcm dfcm bench r₁ b₁ f₁ d₁ n₁ → Replaces b l exam slot words fcm dfcm bench r₂ b₂ f₂ d₂ n₂
+    → (r₁ ≡ r₂) × (b₁ ≡ b₂) × (f₁ ≡ f₂) × (d₁ ≡ d₂) × (n₁ ≡ n₂)
+replace-one-answer p q =
+    let f = change-one-answer (p .file) (q .file) in
+    (f .0, f .1, p .fcmLeft ∙ sym (q .fcmLeft), p .dfcmLeft ∙ sym (q .dfcmLeft), p .benchLeft ∙ sym (q .benchLeft))
+
 -- ---- when each call answers 0
 
--- The number of open's answer is the one that find, fetch and append refuse by.
+-- The number of open's answer is the one that find, fetch, append and replace refuse by.
 pub open-refuses-for-all : (b : List ℕ) (l exam : ℕ) → openedNumber (opened b l exam) ≡ openInNumber b l exam
 open-refuses-for-all b l exam = opened-number b l exam
 
@@ -108,6 +117,11 @@ append-accepts {words} {fcm} {dfcm} {bench} c = (
   (λ k. changes-number (c .file) ∙ takes-append _ _ _ _ words fcm dfcm bench k),
 )
 
+-- Replace answers 0 just where it has what it needs: no room for an entry, since that is there.
+pub replace-accepts : {b : List ℕ} {l exam slot : ℕ} {words fcm dfcm bench b' f' d' bench' : List ℕ} {r : Made} → Replaces b l exam slot words fcm dfcm bench r b' f' d' bench'
+    → (r .number ≡ 0) ↔ ReplaceTakes b l exam slot (length words) (length fcm) (length dfcm) (length bench)
+replace-accepts c = ((λ e. replace-takes _ _ _ _ _ _ _ _ (sym (changes-number (c .file)) ∙ e)), (λ k. changes-number (c .file) ∙ takes-replace _ _ _ _ _ _ _ _ k))
+
 -- ---- every number is one of the call's list
 
 -- Create answers 0, 8, 7 or 3.
@@ -137,9 +151,14 @@ pub append-numbers : {b : List ℕ} {l exam slot : ℕ} {words fcm dfcm bench b'
     → List·Mem (r .number) (0 ∷ 4 ∷ 7 ∷ 8 ∷ 9 ∷ 12 ∷ 11 ∷ 1 ∷ 2 ∷ 3 ∷ [])
 append-numbers {b} {l} {exam} {slot} {words} {fcm} {dfcm} {bench} c = mem-cast (changes-number (c .file)) (append-one-of b l exam slot words fcm dfcm bench)
 
+-- Replace answers 0, one of find's numbers, 1, 2 or 3.
+pub replace-numbers : {b : List ℕ} {l exam slot : ℕ} {words fcm dfcm bench b' f' d' bench' : List ℕ} {r : Made} → Replaces b l exam slot words fcm dfcm bench r b' f' d' bench'
+    → List·Mem (r .number) (0 ∷ 4 ∷ 7 ∷ 8 ∷ 9 ∷ 10 ∷ 1 ∷ 2 ∷ 3 ∷ [])
+replace-numbers c = mem-cast (changes-number (c .file)) (replace-one-of _ _ _ _ _ _ _ _)
+
 -- ---- a file opens only for its own exam number
 
--- Where open answers 0, the trailer's exam number is the one asked for, and not 0. (Find, fetch and append open first.)
+-- Where open answers 0, the trailer's exam number is the one asked for, and not 0. (Find, fetch, append and replace open first.)
 pub own-exam : (b : List ℕ) (l exam : ℕ) → openedNumber (opened b l exam) ≡ 0 → (examIn (take l b) ≡ exam) × (0 < exam)
 own-exam b l exam e = let k = open-accepts b l exam .0 e in (k .own, k .named)
 
@@ -169,25 +188,51 @@ append-forgets p q e g z =
       p .benchLeft ∙ rw (e, g) (sym (q .benchLeft)),
     )
 
--- ---- files made by create and appends
+-- So do two accepted runs of replace.
+pub replace-forgets : {b : List ℕ} {l exam slot : ℕ} {words f₁ d₁ f₂ d₂ bench b₁ f₁' d₁' n₁ b₂ f₂' d₂' n₂ : List ℕ} {r₁ r₂ : Made}
+    → Replaces b l exam slot words f₁ d₁ bench r₁ b₁ f₁' d₁' n₁ → Replaces b l exam slot words f₂ d₂ bench r₂ b₂ f₂' d₂' n₂ → length f₁ ≡ length f₂ → length d₁ ≡ length d₂ → r₁ .number ≡ 0
+    → (r₁ ≡ r₂) × (b₁ ≡ b₂) × (f₁' ≡ f₂') × (d₁' ≡ d₂') × (n₁ ≡ n₂)
+replace-forgets p q e g z =
+    let x = sym (changes-number (p .file)) ∙ z in
+    let y = rw (e, g) at x in (
+      p .file .answer ∙ rw (e, g) (sym (q .file .answer)),
+      p .file .fileLeft ∙ rw (e, g) (sym (q .file .fileLeft)),
+      p .fcmLeft ∙ afterwards-new _ _ _ x ∙ sym (q .fcmLeft ∙ afterwards-new _ _ _ y),
+      p .dfcmLeft ∙ afterwards-new _ _ _ x ∙ sym (q .dfcmLeft ∙ afterwards-new _ _ _ y),
+      p .benchLeft ∙ rw (e, g) (sym (q .benchLeft)),
+    )
+
+-- ---- files made by create, appends and replaces
 
 -- The first l bytes of the buffer b are a file that create made for an exam and a t, and then an append for each of the maps, none of them refused. Between
--- two calls it may have been copied: to disk and back, say, into any buffer that begins with the same l bytes.
+-- two calls it may have been copied: to disk and back, say, into any buffer that begins with the same l bytes. And the words of a map may have been replaced,
+-- which was not refused: then the list has the new ones.
 pub data MadeOf (exam t : ℕ) : List Map → List ℕ → ℕ → Type 0 where
   created : {b b' : List ℕ} {r : Made} → exam < 2 ^ 64 → Creates b exam t r b' → r .number ≡ 0 → MadeOf exam t [] b' (r .length)
   grown : {ms : List Map} {b : List ℕ} {l slot : ℕ} {words fcm dfcm bench b' fcm' dfcm' bench' : List ℕ} {r : Made}
       → MadeOf exam t ms b l → slot < 2 ^ 32 → Words words → Appends b l exam slot words fcm dfcm bench r b' fcm' dfcm' bench' → r .number ≡ 0
       → MadeOf exam t (ms ++ (record { slot = slot; words = words } ∷ [])) b' (r .length)
+  exchanged : {ms : List Map} {b : List ℕ} {l slot : ℕ} {words fcm dfcm bench b' fcm' dfcm' bench' : List ℕ} {r : Made}
+      → MadeOf exam t ms b l → Words words → Replaces b l exam slot words fcm dfcm bench r b' fcm' dfcm' bench' → r .number ≡ 0
+      → MadeOf exam t (changed slot words ms) b' (r .length)
   copied : {ms : List Map} {b c : List ℕ} {l : ℕ} → MadeOf exam t ms b l → take l c ≡ take l b → MadeOf exam t ms c l
 
 made-holds : {exam t : ℕ} {ms : List Map} {b : List ℕ} {l : ℕ} → MadeOf exam t ms b l → Holds b l (fileOf exam t ms)
 made-holds (created w c e) = created-pieces w c e
 made-holds {exam} {t} (grown {ms = ms} h s w c e) = rw map-append (appended-pieces exam t (map (pieceOf t) ms) (made-holds h) s c e)
+made-holds {exam} {t} (exchanged {ms = ms} h w c e) = changed-maps exam t ms (made-holds h) c e
 made-holds (copied h e) = copied-holds (made-holds h) e
 
 -- Such a file is the bytes of its parts: the blocks of the maps in order, an entry for each, the trailer.
 pub made-is-its-parts : {exam t : ℕ} {ms : List Map} {b : List ℕ} {l : ℕ} → MadeOf exam t ms b l → (take l b ≡ fileBytes (fileOf exam t ms)) × (l ≡ fileLength (fileOf exam t ms))
 made-is-its-parts m = let h = made-holds m in (h .bytes, holds-length h)
+
+-- So two files that were made of the same maps, for the same exam and t, are the same, byte for byte.
+pub made-alike : {exam t : ℕ} {ms : List Map} {b c : List ℕ} {l k : ℕ} → MadeOf exam t ms b l → MadeOf exam t ms c k → (l ≡ k) × (take l b ≡ take k c)
+made-alike p q =
+    let x = made-is-its-parts p in
+    let y = made-is-its-parts q in
+    (x .1 ∙ sym (y .1), x .0 ∙ sym (y .0))
 
 -- Such a file opens for its exam number.
 pub made-opens : {exam t : ℕ} {ms : List Map} {b : List ℕ} {l : ℕ} → MadeOf exam t ms b l → openedNumber (opened b l exam) ≡ 0
@@ -203,6 +248,7 @@ made-tells {exam} {t} {ms} {b} {l} m =
 made-fit : {exam t : ℕ} {ms : List Map} {b : List ℕ} {l : ℕ} → MadeOf exam t ms b l → Each Fit ms
 made-fit (created w c e) = none
 made-fit (grown h s w c e) = each-more (made-fit h) (record { few = append-accepts c .0 e .fewWords; wide = w })
+made-fit (exchanged h w c e) = changed-fit _ _ (replace-accepts c .0 e .fewWords) w (made-fit h)
 made-fit (copied h e) = made-fit h
 
 -- Finding a slot of such a file hands back the block of the words that were appended there.
@@ -221,6 +267,18 @@ pub made-fetches : (first : List Map) (m : Map) (rest : List Map) {exam t : ℕ}
 made-fetches first m rest {exam} {t} k c lf ld enough =
     let h = maps-piece exam t first m rest (made-holds k) in
     block-fetched t (block t (m .words)) (piece-found h) (piece-block h) (piece-t h) (map-reads t m (each-at first m rest (made-fit k))) c lf ld enough
+
+-- Replacing the words of a map of such a file makes the file of the changed list: every other map is the one it was, in its place.
+pub made-replaces : (first : List Map) (m : Map) (rest : List Map) {exam t : ℕ} {b : List ℕ} {l : ℕ} {words fcm dfcm bench b' fcm' dfcm' bench' : List ℕ} {r : Made}
+    → MadeOf exam t (first ++ m ∷ rest) b l → Words words → Replaces b l exam (m .slot) words fcm dfcm bench r b' fcm' dfcm' bench' → r .number ≡ 0
+    → MadeOf exam t (first ++ record { slot = m .slot; words = words } ∷ rest) b' (r .length)
+made-replaces first m rest {exam} {t} {words = words} k w c e = rw (← (changed-at exam t first m rest words (made-holds k))) (exchanged k w c e)
+
+-- So it is byte for byte the file that create and appends make afresh from the changed list, in any buffer, where none of those is refused.
+pub replace-is-afresh : (first : List Map) (m : Map) (rest : List Map) {exam t : ℕ} {b c : List ℕ} {l k : ℕ} {words fcm dfcm bench b' fcm' dfcm' bench' : List ℕ} {r : Made}
+    → MadeOf exam t (first ++ m ∷ rest) b l → Words words → Replaces b l exam (m .slot) words fcm dfcm bench r b' fcm' dfcm' bench' → r .number ≡ 0
+    → MadeOf exam t (first ++ record { slot = m .slot; words = words } ∷ rest) c k → (r .length ≡ k) × (take (r .length) b' ≡ take k c)
+replace-is-afresh first m rest h w q e afresh = made-alike (made-replaces first m rest h w q e) afresh
 
 -- ---- a refusal leaves everything as it was
 
@@ -288,6 +346,18 @@ refused-append-changes-nothing {b} {l} {exam} {slot} {words} {fcm} {dfcm} {bench
       c .benchLeft ∙ afterwards-old _ _ _ k,
     )
 
+-- A refused replace changes nothing.
+pub refused-replace-changes-nothing : {b : List ℕ} {l exam slot : ℕ} {words fcm dfcm bench b' f' d' bench' : List ℕ} {r : Made}
+    → Replaces b l exam slot words fcm dfcm bench r b' f' d' bench' → (r .number ≡ 0 → ⊥) → (r .length ≡ 0) × (b' ≡ b) × (f' ≡ fcm) × (d' ≡ dfcm) × (bench' ≡ bench)
+refused-replace-changes-nothing {b} {l} {exam} {slot} {words} {fcm} {dfcm} {bench} c h =
+    let k : replacesNumber b l exam slot words fcm dfcm bench ≡ 0 → ⊥ = λ z. h (changes-number (c .file) ∙ z) in (
+      changes-none (c .file) h,
+      c .file .fileLeft ∙ afterwards-old _ _ _ k ∙ afterwards-old _ _ _ k,
+      c .fcmLeft ∙ afterwards-old _ _ _ k,
+      c .dfcmLeft ∙ afterwards-old _ _ _ k,
+      c .benchLeft ∙ afterwards-old _ _ _ k,
+    )
+
 -- ---- an append keeps what was there
 
 -- An accepted append to any file that opens makes a file that opens for the same exam number: the same parts, with one block and one entry more.
@@ -314,6 +384,71 @@ append-fetches {b} {l} {exam} {slot} {words} h w v c e q lf ld enough =
     let reads = map-reads t (record { slot = slot; words = words }) (record { few = k .fewWords; wide = v }) in
     block-fetched t (block t words) (n .0) (n .1) (ap (λ (f : File). f .t) (holds-parts (more-holds h w c e))) reads q (lf ∙ k .fcmLong) (ld ∙ k .dfcmLong ∙ k .fcmLong) enough
 
+-- ---- a replace exchanges one block and keeps all else
+
+-- An accepted replace in any file that opens makes a file that opens for the same exam number: the same parts, with the block of the words in the slot's
+-- place. So edition and t are the same.
+pub replace-exchanges : {b : List ℕ} {l exam slot : ℕ} {words fcm dfcm bench b' fcm' dfcm' bench' : List ℕ} {r : Made} → Bytes b
+    → Replaces b l exam slot words fcm dfcm bench r b' fcm' dfcm' bench' → r .number ≡ 0
+    → (fileIn (take (r .length) b') ≡ replaced (fileIn (take l b)) (entryOf slot (fileIn (take l b))) (block (fileIn (take l b) .t) words)) × (openedNumber (opened b' (r .length) exam) ≡ 0)
+replace-exchanges {exam = exam} {b' = b'} {r = r} h c e = (holds-parts (exchanged-holds c e h), opened-number b' (r .length) exam ∙ exchanged-opens c e h)
+
+-- Its length changes by the difference of the two blocks.
+pub replace-length : {b : List ℕ} {l exam slot : ℕ} {words fcm dfcm bench b' fcm' dfcm' bench' : List ℕ} {r : Made} → Bytes b
+    → Replaces b l exam slot words fcm dfcm bench r b' fcm' dfcm' bench' → r .number ≡ 0
+    → r .length + entryOf slot (fileIn (take l b)) .size ≡ l + length (block (fileIn (take l b) .t) words)
+replace-length h c e = exchanged-length c e h
+
+-- It has the slots that it had: find answers the same number for every slot.
+pub replace-keeps-slots : {b : List ℕ} {l exam slot : ℕ} {words fcm dfcm bench b' fcm' dfcm' bench' : List ℕ} {r : Made} → Bytes b
+    → Replaces b l exam slot words fcm dfcm bench r b' fcm' dfcm' bench' → r .number ≡ 0 → (s : ℕ) → findNumber b' (r .length) exam s ≡ findNumber b l exam s
+replace-keeps-slots h c e s = same-slots c e h s
+
+-- Every other slot keeps its size and the bytes of its block.
+pub replace-keeps-blocks : {b : List ℕ} {l exam slot : ℕ} {words fcm dfcm bench b' fcm' dfcm' bench' : List ℕ} {r : Made} → Bytes b
+    → Replaces b l exam slot words fcm dfcm bench r b' fcm' dfcm' bench' → r .number ≡ 0 → (s : ℕ) → (s ≡ slot → ⊥) → findNumber b l exam s ≡ 0
+    → (entryOf s (fileIn (take (r .length) b')) .size ≡ entryOf s (fileIn (take l b)) .size) × (blockIn b' (r .length) s ≡ blockIn b l s)
+replace-keeps-blocks h c e s n z = kept-beside c e h s n z
+
+-- A block that stood before keeps its offset; a later offset moves by the difference of the two blocks.
+pub replace-moves-later : {b : List ℕ} {l exam slot : ℕ} {words fcm dfcm bench b' fcm' dfcm' bench' : List ℕ} {r : Made} → Bytes b
+    → Replaces b l exam slot words fcm dfcm bench r b' fcm' dfcm' bench' → r .number ≡ 0 → (s : ℕ) → (s ≡ slot → ⊥) → findNumber b l exam s ≡ 0
+    → (entryOf s (fileIn (take l b)) .offset ≤ entryOf slot (fileIn (take l b)) .offset
+    → entryOf s (fileIn (take (r .length) b')) .offset ≡ entryOf s (fileIn (take l b)) .offset)
+    × (entryOf slot (fileIn (take l b)) .offset < entryOf s (fileIn (take l b)) .offset
+    → entryOf s (fileIn (take (r .length) b')) .offset + entryOf slot (fileIn (take l b)) .size
+    ≡ entryOf s (fileIn (take l b)) .offset + length (block (fileIn (take l b) .t) words))
+replace-moves-later h c e s n z = (place-before c e h s n z, place-behind c e h s n z)
+
+-- The replaced slot keeps its offset, and its block is the block of the words.
+pub replace-puts-block : {b : List ℕ} {l exam slot : ℕ} {words fcm dfcm bench b' fcm' dfcm' bench' : List ℕ} {r : Made} → Bytes b
+    → Replaces b l exam slot words fcm dfcm bench r b' fcm' dfcm' bench' → r .number ≡ 0
+    → (entryOf slot (fileIn (take (r .length) b')) ≡ entry slot (entryOf slot (fileIn (take l b)) .offset) (length (block (fileIn (take l b) .t) words)))
+    × (blockIn b' (r .length) slot ≡ block (fileIn (take l b) .t) words)
+replace-puts-block h c e = (slot-entry c e h, slot-exchanged c e h .1)
+
+-- And what was put there is fetched, word for word, with tables of the same size.
+pub replace-fetches : {b : List ℕ} {l exam slot : ℕ} {words fcm dfcm bench b' fcm' dfcm' bench' f₂ d₂ room f₂' d₂' room' : List ℕ} {r : Made} {s : Unpacked} → Bytes b → Words words
+    → Replaces b l exam slot words fcm dfcm bench r b' fcm' dfcm' bench' → r .number ≡ 0
+    → Fetches b' (r .length) exam slot f₂ d₂ room s f₂' d₂' room' → length f₂ ≡ length fcm → length d₂ ≡ length dfcm → length words ≤ length room
+    → (s ≡ record { number = 0; count = length words }) × (room' ≡ over words room)
+replace-fetches {b} {l} {exam} {slot} {words} h v c e q lf ld enough =
+    let t = fileIn (take l b) .t in
+    let k = replace-accepts c .0 e in
+    let n = slot-exchanged c e h in
+    let reads = map-reads t (record { slot = slot; words = words }) (record { few = k .fewWords; wide = v }) in
+    block-fetched t (block t words) (n .0) (n .1) (ap (λ (f : File). f .t) (holds-parts (exchanged-holds c e h))) reads q (lf ∙ k .fcmLong) (ld ∙ k .dfcmLong ∙ k .fcmLong) enough
+
+-- Freed bytes are 0: those between the new end and the old end, where the file got shorter. They were patient data.
+pub freed-bytes-are-zero : {b : List ℕ} {l exam slot : ℕ} {words fcm dfcm bench b' fcm' dfcm' bench' : List ℕ} {r : Made}
+    → Replaces b l exam slot words fcm dfcm bench r b' fcm' dfcm' bench' → r .number ≡ 0 → (i d : ℕ) → r .length ≤ i → i < l → getD b' i d ≡ 0
+freed-bytes-are-zero c e i d h k = freed-zero c e i d h k
+
+-- Beyond both ends the buffer is as it was.
+pub replace-leaves-the-rest : {b : List ℕ} {l exam slot : ℕ} {words fcm dfcm bench b' fcm' dfcm' bench' : List ℕ} {r : Made}
+    → Replaces b l exam slot words fcm dfcm bench r b' fcm' dfcm' bench' → r .number ≡ 0 → (i d : ℕ) → r .length ≤ i → l ≤ i → getD b' i d ≡ getD b i d
+replace-leaves-the-rest c e i d h k = beyond-stays c e i d h k
+
 -- ---- nothing cut short
 
 -- No file opens whose own trailer, at its end, does not state its length.
@@ -325,7 +460,7 @@ pub fetched-is-whole : {b : List ℕ} {l exam slot : ℕ} {fcm dfcm words f' d' 
     → blockNumber (blockIn b l slot) ≡ 0
 fetched-is-whole c e = fetch-accepts c .0 e .whole
 
--- Cut a file made by create and appends anywhere, and let a buffer begin with what is left. Whatever number is asked, where it opens the blocks of its slots
+-- Cut a file made by create, appends and replaces anywhere, and let a buffer begin with what is left. Whatever number is asked, where it opens the blocks of its slots
 -- are never all whole; and fetch unpacks none that is not whole.
 pub cut-is-never-whole : {exam t : ℕ} {ms : List Map} {b : List ℕ} {l : ℕ} → MadeOf exam t ms b l → (k : ℕ) → k < l → (c : List ℕ) → take k c ≡ take k b
     → (asked : ℕ) → openedNumber (opened c k asked) ≡ 0 → ((slot : ℕ) → findNumber c k asked slot ≡ 0 → blockNumber (blockIn c k slot) ≡ 0) → ⊥

@@ -1,11 +1,11 @@
 -- Runs of stores into a list: `lib.Seq.sets` asks for no room, so neither do these laws.
 use mathlib.Core.Path.{_≡_, refl, ap, _∙_, sym}
-use mathlib.Core.List.{List, [], _∷_, _++_, append-nil}
+use mathlib.Core.List.{List, [], _∷_, _++_, append-assoc, append-nil}
 use Prim.Native.Nat.{ℕ, suc, _+_, _-_, _/_, _%_, _≤_, _<_}
 use native.Mathlib.Omega.{arith}
 use native.Mathlib.Nat.{add-zero, sub-zero}
-use lib.ListN.{length, set, take, drop, replicate, length-set, length-replicate, drop-of-length-le}
-use lib.Seq.{sets, sets-eq, set-comm, take-set-le, drop-set-lt, drop-set-add}
+use lib.ListN.{length, set, take, drop, replicate, length-drop, length-set, length-replicate, take-append-drop, drop-of-length-le}
+use lib.Seq.{sets, sets-eq, set-comm, length-take-le, take-set-le, drop-set-lt, drop-set-add, drop-drop}
 use Rattle.words.specs.Bytes.{lowBytes}
 
 pub sets-append : (l : List ℕ) (i : ℕ) (vs ws : List ℕ) → sets l i (vs ++ ws) ≡ sets (sets l i vs) (i + length vs) ws
@@ -114,3 +114,19 @@ clear-ends l₀ l i h g =
 -- one run of stores after another
 pub join : (b c d xs ys : List ℕ) (i j : ℕ) → c ≡ sets b i xs → d ≡ sets c j ys → j ≡ i + length xs → d ≡ sets b i (xs ++ ys)
 join b c d xs ys i j p q e = q ∙ rw (p, e) (sym (sets-append b i xs ys))
+
+-- the bytes at a place, put there again, change nothing
+pub put-again : (b : List ℕ) (at k : ℕ) → at + k ≤ length b → sets b at (take k (drop at b)) ≡ b
+put-again b at k h =
+    let x = take k (drop at b) in
+    let n : length x ≡ k = length-take-le k (drop at b) (simp length-drop (omega arith)) in
+    sets-eq x b at (omega arith)
+    ∙ append-assoc (take at b) x (drop (at + length x) b)
+    ∙ ap (λ (y : List ℕ). take at b ++ y) (rw (n, ← (drop-drop k at b)) (take-append-drop k (drop at b)))
+    ∙ take-append-drop at b
+
+-- what a block pushes on, and then the block
+pub put-before : (b c d xs ys : List ℕ) (at : ℕ) → c ≡ sets b (at + length xs) ys → d ≡ sets c at xs → d ≡ sets b at (xs ++ ys)
+put-before b c d xs ys at p q =
+    let under : d ≡ sets (sets b at xs) (at + length xs) ys = q ∙ ap (λ (x : List ℕ). sets x at xs) p ∙ sets-sets b at xs (at + length xs) ys (omega arith) in
+    join b (sets b at xs) d xs ys at (at + length xs) refl under refl

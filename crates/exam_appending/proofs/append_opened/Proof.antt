@@ -4,7 +4,7 @@ use lib.Seq.{length-take-le}
 use borrow.Author.Needs.{needs}
 use Rattle.exam_rules.proofs.Opens.{opens-in, done-tells, standing}
 use Rattle.exam_rules.proofs.Parts.{t-small, entries-stand}
-use Rattle.exam_appending.proofs.Appending.{opened-refused, opened-appendable, bench-within, adding, opened-done}
+use Rattle.exam_appending.proofs.Appending.{opened-refused, opened-appendable, bench-holds, adding, opened-done}
 use Rattle.exam_appending.proofs.append_opened.Statement.{statement}
 use Rattle.exam_appending.proofs.append_opened.Tie as tie
 
@@ -54,7 +54,7 @@ slice-reshare-prefix-add-block c =
     let at-append-number = at-if1 .before in
     let at-next-slot = at-append-number .before in
     let entry = at-next-slot .before .before .before .before .before .before .before in
-    bench-within _ _ _ _ (entry .args .words .now) (entry .args .fcm .now) (entry .args .dfcm .now) (entry .args .bench .now) _ (entry .pre) _ _ (at-next-slot .next-slot .ensures) (at-append-number .append-number .ensures) (at-if1 .if1 .left) _ _ _ _ (at-pack-all .pack-all .ensures)
+    bench-holds _ _ _ _ (entry .args .words .now) (entry .args .fcm .now) (entry .args .dfcm .now) (entry .args .bench .now) _ (entry .pre) _ _ (at-next-slot .next-slot .ensures) (at-append-number .append-number .ensures) (at-if1 .if1 .left) _ _ _ _ (at-pack-all .pack-all .ensures)
 
 slice-aggregate-add-block : tie.Need-slice-aggregate-add-block
 slice-aggregate-add-block c =
@@ -63,7 +63,7 @@ slice-aggregate-add-block c =
     let at-append-number = at-if1 .before in
     let at-next-slot = at-append-number .before in
     let entry = at-next-slot .before .before .before .before .before .before .before in
-    sym (length-take-le _ _ (bench-within _ _ _ _ (entry .args .words .now) (entry .args .fcm .now) (entry .args .dfcm .now) (entry .args .bench .now) _ (entry .pre) _ _ (at-next-slot .next-slot .ensures) (at-append-number .append-number .ensures) (at-if1 .if1 .left) _ _ _ _ (at-pack-all .pack-all .ensures)))
+    sym (length-take-le _ _ (bench-holds _ _ _ _ (entry .args .words .now) (entry .args .fcm .now) (entry .args .dfcm .now) (entry .args .bench .now) _ (entry .pre) _ _ (at-next-slot .next-slot .ensures) (at-append-number .append-number .ensures) (at-if1 .if1 .left) _ _ _ _ (at-pack-all .pack-all .ensures)))
 
 add-block-requires : tie.Need-add-block-requires
 add-block-requires c κs =

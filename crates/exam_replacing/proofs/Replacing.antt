@@ -1,0 +1,112 @@
+-- Replacing in a file that was opened or refused.
+use mathlib.Core.Path.{_≡_, sym, ap, ap₂, _∙_}
+use mathlib.Core.List.{List}
+use Prim.Native.Nat.{ℕ, _-_, _≤_}
+use native.Mathlib.Omega.{arith}
+use lib.ListN.{length, getD, take}
+use Rattle.answers.specs.Answers.{over}
+use Rattle.answers.proofs.Checks.{fails-here, fails-later, last-decides, none-fails, afterwards-new, afterwards-old}
+use Rattle.block_rules.specs.Block.{block}
+use Rattle.block_rules.specs.Numbers.{tOf}
+use Rattle.block_rules.specs.Inside.{PacksAll}
+use Rattle.block_rules.proofs.Lengths.{block-at-most}
+use Rattle.block_rules.proofs.Round.{written-block}
+use Rattle.exam_rules.specs.File.{entry, File, fileLength, fileBytes, replaced}
+use Rattle.exam_rules.specs.Reading.{fileIn, indexOf, entryOf}
+use Rattle.exam_rules.specs.Numbers.{mostBytes, slotNumber, findNumber, storeNumber, replaceNumber}
+use Rattle.exam_rules.specs.Calls.{opened, openedNumber, replacesNumber, Replaces}
+use Rattle.exam_rules.specs.Inside.{Standing}
+use Rattle.exam_rules.specs.declared.Trailer.{Trailer}
+use Rattle.exam_rules.specs.declared.Opened.{Opened}
+use Rattle.exam_rules.specs.declared.Opened.the-variants.{Done, Refused}
+use Rattle.exam_rules.proofs.Opens.{opens-in, refused-tells, done-tells, standing}
+use Rattle.exam_rules.proofs.Parts.{no-default, tells-t, t-small}
+use Rattle.exam_rules.proofs.Changes.{change-refused, change-done}
+use Rattle.exam_rules.proofs.Accept.{Storable, storable, find-tells}
+use Rattle.exam_rules.proofs.Stored.{packed-all, bench-within}
+use Rattle.exam_opening.specs.Inside.{PartOf}
+use Rattle.exam_opening.specs.declared.Part.{Part}
+use Rattle.exam_replacing.specs.Inside.{Replacing, rewritten, Rewrites}
+
+module _ (b : List ℕ) (l exam slot : ℕ) (words fcm dfcm bench : List ℕ) where
+  replace-stopped : (n : ℕ) → n ≡ replacesNumber b l exam slot words fcm dfcm bench → (n ≡ 0 → ⊥)
+      → Replaces b l exam slot words fcm dfcm bench (record { number = n; length = 0 }) b fcm dfcm bench
+  replace-stopped n e h =
+      let r : replacesNumber b l exam slot words fcm dfcm bench ≡ 0 → ⊥ = λ z. h (e ∙ z) in
+      record {
+        file = record { answer = change-refused _ n _ b e h .answer; fileLeft = sym (afterwards-old _ _ _ r ∙ afterwards-old _ _ b r) };
+        fcmLeft = sym (afterwards-old _ _ fcm r);
+        dfcmLeft = sym (afterwards-old _ _ dfcm r);
+        benchLeft = sym (afterwards-old _ _ bench r);
+      }
+
+  -- where opening refused
+  pub replace-refused : (a : Opened) (k n : ℕ) → a ≡ opened b l exam → a ≡ Refused k → n ≡ openedNumber a
+      → Replaces b l exam slot words fcm dfcm bench (record { number = n; length = 0 }) b fcm dfcm bench
+  unfolding replaceNumber findNumber
+  replace-refused a k n e d q =
+      let t = refused-tells b l exam k (sym e ∙ d) in
+      let m : n ≡ k = q ∙ ap openedNumber d in
+      let h : n ≡ 0 → ⊥ = λ z. t .1 (sym m ∙ z) in
+      replace-stopped n (fails-here _ _ _ (fails-here _ _ _ (m ∙ t .0) h) h) h
+
+  -- where the file is open, and the slot was looked for
+  module _ (tr : Trailer) (o : opened b l exam ≡ Done tr) (p : Part) (w : PartOf (take l b) slot p) where
+    st : Standing (take l b) tr
+    st = standing b l exam tr o
+
+    find-number : p .number ≡ findNumber b l exam slot
+    unfolding findNumber
+    find-number = w .number ∙ fails-later _ _ _ (done-tells b l exam tr o .0) (last-decides _)
+
+    pub slot-missing : (p .number ≡ 0 → ⊥) → Replaces b l exam slot words fcm dfcm bench (record { number = p .number; length = 0 }) b fcm dfcm bench
+    unfolding replaceNumber
+    slot-missing h = replace-stopped (p .number) (fails-here _ _ _ find-number h) h
+
+    module _ (found : p .number ≡ 0) (n : ℕ)
+        (r : n ≡ storeNumber (tr .t) (length words) (length fcm) (length dfcm) (l - (p .end - p .start)) (length b) (length bench)) where
+      -- the number that the code finds is the call's
+      replace-number : n ≡ replacesNumber b l exam slot words fcm dfcm bench
+      unfolding replaceNumber
+      replace-number =
+          let size : p .end - p .start ≡ entryOf slot (fileIn (take l b)) .size = w .size ∙ afterwards-new _ _ 0 found in
+          (rw (← (tells-t (take l b) tr st), size) at r) ∙ fails-later _ _ _ (sym find-number ∙ found) (last-decides _)
+
+      pub store-refused : (n ≡ 0 → ⊥) → Replaces b l exam slot words fcm dfcm bench (record { number = n; length = 0 }) b fcm dfcm bench
+      store-refused h = replace-stopped n replace-number h
+
+      module _ (z : n ≡ 0) where
+        pub stores : Storable (tr .t) (length words) (length fcm) (length dfcm) (l - (p .end - p .start)) (length b) (length bench)
+        stores = storable _ _ _ _ _ _ _ (t-small (take l b) tr st) (sym r ∙ z)
+
+        module _ (k : ℕ) (fcm' dfcm' bench' : List ℕ) (q : PacksAll (tOf (length fcm)) words bench fcm' dfcm' bench' k) where
+          packs : PacksAll (fileIn (take l b) .t) words bench fcm' dfcm' bench' k
+          packs = rw (← (tells-t (take l b) tr st)) at (packed-all (tr .t) words fcm dfcm bench (t-small (take l b) tr st) stores k fcm' dfcm' bench' q)
+
+          pub bench-holds : k ≤ length bench'
+          bench-holds = bench-within packs
+
+          pub replacing : Replacing b (take k bench') l exam tr p
+          replacing =
+              let lk = ap length (written-block packs) in
+              let m = block-at-most (fileIn (take l b) .t) words in
+              record { opens = o; slot = slot; part = w; found = found; room = omega (arith, stores .room); small = omega (arith, stores .small) }
+
+          pub replace-done : (size : ℕ) (b' : List ℕ) → Rewrites b (take k bench') l (p .index) b' size
+              → Replaces b l exam slot words fcm dfcm bench (record { number = 0; length = size }) b' fcm' dfcm' bench'
+          unfolding entryOf
+          replace-done size b' s =
+              let y = sym replace-number ∙ z in
+              let file = fileIn (take l b) in
+              let below = find-tells b l exam slot (sym find-number ∙ found) .1 in
+              let its : getD (file .entries) (p .index) (entry 0 0 0) ≡ entryOf slot file =
+              rw (w .index) (no-default (file .entries) (indexOf slot (file .entries)) (entry 0 0 0) (entry slot 0 0) below) in
+              let new : rewritten b (take k bench') l (p .index) ≡ replaced file (entryOf slot file) (block (file .t) words) = rw (written-block packs, its) in
+              record {
+                file =
+                    change-done _ size _ _ b' y (s .end ∙ ap fileLength new)
+                    (s .bytes ∙ ap₂ (λ (f : File) (x : List ℕ). over (fileBytes f) x) new (sym (afterwards-new _ _ b y)));
+                fcmLeft = packs .fcm ∙ sym (afterwards-new _ _ fcm y);
+                dfcmLeft = packs .dfcm ∙ sym (afterwards-new _ _ dfcm y);
+                benchLeft = packs .out ∙ sym (afterwards-new _ _ bench y);
+              }
