@@ -1,4 +1,4 @@
-# For run and before, which source it from the top folder of the repository: what says that nothing can be
+# For run, before and replace, which source it from the top folder of the repository: what says that nothing can be
 # measured, the store's own code for this machine, and the place of a table in the page.
 
 . examples/watched.sh
@@ -32,6 +32,15 @@ else
     short_kind="the LLVM module of libcoil.a, compiled for it by bench/native, not the shipped x86-64 code"
     compile_store() { "$1/bench/native" "$2"; }
 fi
+
+# Says, for the head of a table, what was measured where.
+processor=$(LC_ALL=C lscpu 2>/dev/null | sed -n 's/^Model name: *//p' | head -n 1)
+say_machine() {
+    local system
+    system=$(sed -n 's/^PRETTY_NAME="\(.*\)"/\1/p' /etc/os-release 2>/dev/null || true)
+    echo "- Processor: ${processor:-unknown} ($machine), $(nproc) cores. ${system:-$(uname -s)}."
+    echo "- Store: $kind."
+}
 
 # Proves and compiles the store of a checkout, unless the object is newer than its sources: an older one would give
 # the times of other code.

@@ -1,17 +1,20 @@
 -- Replacing in a file that was opened or refused.
 use mathlib.Core.Path.{_≡_, sym, ap, ap₂, _∙_}
-use mathlib.Core.List.{List}
+use mathlib.Core.List.{List, [], _∷_}
 use Prim.Native.Nat.{ℕ, _-_, _≤_}
 use native.Mathlib.Omega.{arith}
-use lib.ListN.{length, getD, take}
-use Rattle.answers.specs.Answers.{over}
-use Rattle.answers.proofs.Checks.{fails-here, fails-later, last-decides, none-fails, afterwards-new, afterwards-old}
+use lib.Dec.{ltb}
+use lib.ListN.{length, getD, take, List·getD-eq-default}
+use borrow.Author.Tests.{ltb-false}
+use Rattle.words.proofs.Tests.{either}
+use Rattle.answers.specs.Answers.{firstFailure, over}
+use Rattle.answers.proofs.Checks.{unless-passes, unless-fails, fails-here, fails-later, last-decides, none-fails, afterwards-new, afterwards-old}
 use Rattle.block_rules.specs.Block.{block}
 use Rattle.block_rules.specs.Numbers.{tOf}
 use Rattle.block_rules.specs.Inside.{PacksAll}
 use Rattle.block_rules.proofs.Lengths.{block-at-most}
 use Rattle.block_rules.proofs.Round.{written-block}
-use Rattle.exam_rules.specs.File.{entry, File, fileLength, fileBytes, replaced}
+use Rattle.exam_rules.specs.File.{Entry, entry, File, fileLength, fileBytes, replaced}
 use Rattle.exam_rules.specs.Reading.{fileIn, indexOf, entryOf}
 use Rattle.exam_rules.specs.Numbers.{mostBytes, slotNumber, findNumber, storeNumber, replaceNumber}
 use Rattle.exam_rules.specs.Calls.{opened, openedNumber, replacesNumber, Replaces}
@@ -59,25 +62,35 @@ module _ (b : List ℕ) (l exam slot : ℕ) (words fcm dfcm bench : List ℕ) wh
     unfolding findNumber
     find-number = w .number ∙ fails-later _ _ _ (done-tells b l exam tr o .0) (last-decides _)
 
-    pub slot-missing : (p .number ≡ 0 → ⊥) → Replaces b l exam slot words fcm dfcm bench (record { number = p .number; length = 0 }) b fcm dfcm bench
-    unfolding replaceNumber
-    slot-missing h = replace-stopped (p .number) (fails-here _ _ _ find-number h) h
+    module _ (stored n : ℕ) (r : stored ≡ storeNumber (tr .t) (length words) (length fcm) (length dfcm) (l - (p .end - p .start)) (length b) (length bench))
+        (first : n ≡ firstFailure (p .number ∷ stored ∷ [])) where
+      -- where the slot is missing, its part and its entry have no bytes
+      size-is : p .end - p .start ≡ entryOf slot (fileIn (take l b)) .size
+      unfolding entryOf slotNumber
+      size-is =
+          let es = fileIn (take l b) .entries in
+          either (ltb (indexOf slot es) (length es)) (λ q. w .size ∙ afterwards-new _ _ 0 (w .number ∙ unless-passes _ _ q))
+          (λ q.
+          let ten : p .number ≡ 10 = w .number ∙ sym (unless-fails _ _ q) in
+          w .size ∙ afterwards-old _ _ 0 (λ z. omega arith) ∙ sym (ap (λ (e : Entry). e .size) (List·getD-eq-default es (entry slot 0 0) (ltb-false _ _ q))))
 
-    module _ (found : p .number ≡ 0) (n : ℕ)
-        (r : n ≡ storeNumber (tr .t) (length words) (length fcm) (length dfcm) (l - (p .end - p .start)) (length b) (length bench)) where
       -- the number that the code finds is the call's
       replace-number : n ≡ replacesNumber b l exam slot words fcm dfcm bench
       unfolding replaceNumber
-      replace-number =
-          let size : p .end - p .start ≡ entryOf slot (fileIn (take l b)) .size = w .size ∙ afterwards-new _ _ 0 found in
-          (rw (← (tells-t (take l b) tr st), size) at r) ∙ fails-later _ _ _ (sym find-number ∙ found) (last-decides _)
+      replace-number = first ∙ rw (r, find-number, ← (tells-t (take l b) tr st), size-is)
 
-      pub store-refused : (n ≡ 0 → ⊥) → Replaces b l exam slot words fcm dfcm bench (record { number = n; length = 0 }) b fcm dfcm bench
-      store-refused h = replace-stopped n replace-number h
+      pub replace-not-done : (n ≡ 0 → ⊥) → Replaces b l exam slot words fcm dfcm bench (record { number = n; length = 0 }) b fcm dfcm bench
+      replace-not-done h = replace-stopped n replace-number h
 
       module _ (z : n ≡ 0) where
+        none-failed : (p .number ≡ 0) × (firstFailure (stored ∷ []) ≡ 0)
+        none-failed = none-fails _ _ (sym first ∙ z)
+
+        found : p .number ≡ 0
+        found = none-failed .0
+
         pub stores : Storable (tr .t) (length words) (length fcm) (length dfcm) (l - (p .end - p .start)) (length b) (length bench)
-        stores = storable _ _ _ _ _ _ _ (t-small (take l b) tr st) (sym r ∙ z)
+        stores = storable _ _ _ _ _ _ _ (t-small (take l b) tr st) (sym r ∙ none-fails _ _ (none-failed .1) .0)
 
         module _ (k : ℕ) (fcm' dfcm' bench' : List ℕ) (q : PacksAll (tOf (length fcm)) words bench fcm' dfcm' bench' k) where
           packs : PacksAll (fileIn (take l b) .t) words bench fcm' dfcm' bench' k

@@ -202,11 +202,14 @@ module _ (b blk : List ℕ) (l exam : ℕ) (tr : Trailer) (p : Part) (w : Replac
         part-ends,
       ))
 
-  pub rewrites : Bytes b → (b1 b2 b3 b4 : List ℕ) → b1 ≡ sets b place dir → b2 ≡ sets b1 (p .start) (blk ++ take (end - from) (drop from b1))
-      → b3 ≡ sets b2 (end - old + length blk) (trailerBytes (tr .edition) (tr .t) exam (tr .entries) (end - old + length blk + 32))
-      → b4 ≡ sets b3 (end - old + length blk + 32) (replicate (l - (end - old + length blk + 32)) 0)
+  -- the new directory's end, the length that the trailer states, and where the freed bytes start are numbers of their own, so that a wrong one is refused as such
+  pub rewrites : Bytes b → (b1 b2 b3 b4 : List ℕ) (new-end stated freed : ℕ) → b1 ≡ sets b place dir → b2 ≡ sets b1 (p .start) (blk ++ take (end - from) (drop from b1))
+      → b3 ≡ sets b2 new-end (trailerBytes (tr .edition) (tr .t) exam (tr .entries) stated) → b4 ≡ sets b3 freed (replicate (l - freed) 0)
+      → new-end ≡ end - old + length blk → stated ≡ end - old + length blk + 32 → freed ≡ end - old + length blk + 32
       → Rewrites b blk l (p .index) b4 (end - old + length blk + 32)
-  rewrites bytes b1 b2 b3 b4 p1 p2 p3 p4 =
+  rewrites bytes b1 b2 b3 b4 new-end stated freed p1 p2 q3 q4 e1 e2 e3 =
+      let p3 = rw (e1, e2) at q3 in
+      let p4 = rw e3 at q4 in
       let later = drop from (file .body) in
       let es = resized (its .slot) (length blk) (file .entries) in
       let tra = trailerBytes (tr .edition) (tr .t) exam (tr .entries) (end - old + length blk + 32) in

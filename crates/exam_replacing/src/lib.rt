@@ -1,9 +1,10 @@
 // Replacing the words of a slot.
 ghost use mathlib.Core.Path.{_≡_};
-ghost use mathlib.Core.List.{_++_};
+ghost use mathlib.Core.List.{[], _∷_, _++_};
 ghost use Prim.Native.Nat.{_+_, _-_};
 ghost use lib.ListN.{take, drop};
 ghost use lib.Seq.{sets};
+ghost use Rattle.answers.specs.Answers.{firstFailure};
 ghost use Rattle.exam_rules.specs.Calls.{opened, Replaces};
 ghost use Rattle.exam_rules.specs.declared.Opened.the-variants.{Done};
 ghost use Rattle.exam_replacing.specs.Inside.{Behind, movedBytes, resizedBytes, Exchanging, Replacing, Rewrites};
@@ -44,7 +45,7 @@ fn exchange(file: &mut [u8], block: &[u8], start: usize, old: usize, end: usize)
     ensures { λ _. ⌜ now (file .exit) ≡ sets (now (file .entry)) start (now (block .entry) ++ take (end - (start + old)) (drop (start + old) (now (file .entry)))) ⌝ }
 {
     let from = start + old;
-    words::move_bytes(file, from, start + block.len(), end - from);
+    moves::move_bytes(file, from, start + block.len(), end - from);
     words::copy_in(file, start, block);
 }
 
@@ -81,8 +82,18 @@ fn replace_block(
         n,
         new_length,
     );
-    words::wipe(file, new_length, length);
+    moves::wipe(file, new_length, length);
     new_length
+}
+
+// Of two checks, the first failure answers.
+fn first_failure(first: u32, second: u32) -> u32
+    ensures { λ r. ⌜ r ≡ firstFailure (first ∷ second ∷ []) ⌝ }
+{
+    if first != 0 {
+        return first;
+    }
+    second
 }
 
 // Replaces the words of a slot in a file that is open.
@@ -101,22 +112,16 @@ fn replace_opened(
     ensures { λ r. ⌜ Replaces (now (file .entry)) length exam slot (now (words .entry)) (now (fcm .entry)) (now (dfcm .entry)) (now (bench .entry)) r (now (file .exit)) (now (fcm .exit)) (now (dfcm .exit)) (now (bench .exit)) ⌝ }
 {
     let part = exam_opening::part_of(&file[..length], trailer, slot);
-    if part.number != 0 {
-        return Made {
-            number: part.number,
-            length: 0,
-        };
-    }
-    let kept = length - (part.end - part.start);
-    let number = exam_checking::store_number(
+    let store = exam_checking::store_number(
         trailer.t,
         words.len(),
         fcm.len(),
         dfcm.len(),
-        kept,
+        length - (part.end - part.start),
         file.len(),
         bench.len(),
     );
+    let number = first_failure(part.number, store);
     if number != 0 {
         return Made { number, length: 0 };
     }

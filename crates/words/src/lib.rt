@@ -1,8 +1,8 @@
 // Tools on 64-bit words and on bytes, for the crates above. A tool's `requires` is met by the crate
 // that calls it; the calls of the store itself, in `blocks` and `exams`, have none.
 ghost use mathlib.Core.Path.{_≡_};
-ghost use Prim.Native.Nat.{_+_, _-_, _≤_, _<_};
-ghost use lib.ListN.{length, replicate, take, drop};
+ghost use Prim.Native.Nat.{_+_, _≤_, _<_};
+ghost use lib.ListN.{length, replicate};
 ghost use lib.Seq.{sets};
 ghost use Rattle.words.specs.Words.{sub64, zeroBytes};
 ghost use Rattle.words.specs.Bytes.{lowBytes, field, sameBytes};
@@ -99,7 +99,7 @@ fn load_four(src: &[u8], at: usize) -> u64
 }
 
 // Reads eight bytes.
-fn load_eight(src: &[u8], at: usize) -> u64
+pub fn load_eight(src: &[u8], at: usize) -> u64
     requires { ⌜ at + 8 ≤ length (now src) ⌝ }
     ensures { λ r. ⌜ r ≡ field 8 at (now (src .entry)) ⌝ }
 {
@@ -142,63 +142,5 @@ pub fn copy_in(out: &mut [u8], at: usize, src: &[u8])
     while j < src.len() {
         out[at + j] = src[j];
         j += 1;
-    }
-}
-
-// Sets the bytes from one place up to another to zero: none, where the second is not above the first.
-pub fn wipe(buffer: &mut [u8], from: usize, to: usize)
-    requires { ⌜ to ≤ length (now buffer) ⌝ }
-    ensures { λ _. ⌜ now (buffer .exit) ≡ sets (now (buffer .entry)) from (replicate (to - from) 0) ⌝ }
-{
-    let mut i = from;
-    while i < to {
-        buffer[i] = 0;
-        i += 1;
-    }
-}
-
-// Moves n bytes up inside a buffer, the last bytes first, so that no byte is lost where the two
-// places overlap. Eight bytes a turn, since these become one load and one store.
-pub fn move_up(buffer: &mut [u8], from: usize, to: usize, n: usize)
-    requires { ⌜ (from ≤ to) × (to + n ≤ length (now buffer)) ⌝ }
-    ensures { λ _. ⌜ now (buffer .exit) ≡ sets (now (buffer .entry)) to (take n (drop from (now (buffer .entry)))) ⌝ }
-{
-    let mut left = n;
-    while 8 <= left {
-        left -= 8;
-        let word = load_eight(&buffer[..], from + left);
-        store_eight(buffer, to + left, word);
-    }
-    let word = get_bytes(&buffer[..], from, left);
-    put_bytes(buffer, to, left, word);
-}
-
-// Moves n bytes down inside a buffer, the first bytes first, for the same reasons.
-pub fn move_down(buffer: &mut [u8], from: usize, to: usize, n: usize)
-    requires { ⌜ (to ≤ from) × (from + n ≤ length (now buffer)) ⌝ }
-    ensures { λ _. ⌜ now (buffer .exit) ≡ sets (now (buffer .entry)) to (take n (drop from (now (buffer .entry)))) ⌝ }
-{
-    let mut i = 0;
-    while 8 <= n - i {
-        let word = load_eight(&buffer[..], from + i);
-        store_eight(buffer, to + i, word);
-        i += 8;
-    }
-    let left = n - i;
-    let word = get_bytes(&buffer[..], from + i, left);
-    put_bytes(buffer, to + i, left, word);
-}
-
-// Moves n bytes from one place of a buffer to another. There are two directions so that no byte is
-// lost where the places overlap: up from the front, or down from the end, would write over bytes that
-// are still to be moved.
-pub fn move_bytes(buffer: &mut [u8], from: usize, to: usize, n: usize)
-    requires { ⌜ (from + n ≤ length (now buffer)) × (to + n ≤ length (now buffer)) ⌝ }
-    ensures { λ _. ⌜ now (buffer .exit) ≡ sets (now (buffer .entry)) to (take n (drop from (now (buffer .entry)))) ⌝ }
-{
-    if to <= from {
-        move_down(buffer, from, to, n);
-    } else {
-        move_up(buffer, from, to, n);
     }
 }

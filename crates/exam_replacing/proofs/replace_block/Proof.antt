@@ -85,8 +85,8 @@ returns c =
     let at-resize = at-exchange .before .before .before .before .before in
     let at-slice-known = at-resize .before .before .before .before .before .before .before in
     let entry = at-slice-known .before in
-    rewrites _ _ _ _ _ _ (entry .pre) (λ i. at-slice-known .slice-known .given i .fits) _ _ _ _ (at-resize .resize .ensures) (at-exchange .exchange .ensures)
-    (at-put-trailer .put-trailer .ensures) (at-wipe .wipe .ensures)
+    rewrites _ _ _ _ _ _ (entry .pre) (λ i. at-slice-known .slice-known .given i .fits) _ _ _ _ _ _ _ (at-resize .resize .ensures) (at-exchange .exchange .ensures)
+    (at-put-trailer .put-trailer .ensures) (at-wipe .wipe .ensures) (omega arith) (omega arith) (omega arith)
 
 pub replace-block-spec : {M : Type 1} → statement M
 replace-block-spec =

@@ -1,9 +1,9 @@
 use Prim.Native.Nat.{_-_, _≤_}
 use native.Mathlib.Omega.{arith}
 use borrow.Author.Needs.{needs}
-use Rattle.words.proofs.Moves.{Moved, moved-none, moved-down}
-use Rattle.words.proofs.move_down.Statement.{statement}
-use Rattle.words.proofs.move_down.Tie as tie
+use Rattle.moves.proofs.Moves.{Moved, moved-none, moved-down}
+use Rattle.moves.proofs.move_down.Statement.{statement}
+use Rattle.moves.proofs.move_down.Tie as tie
 
 abbrev Inv-loop : tie.InvT-loop
 Inv-loop buffer₀ from to n i₀ buffer i = (i ≤ n) × Moved buffer₀ from to i buffer

@@ -1,9 +1,9 @@
 use Prim.Native.Nat.{_+_, _-_, _≤_}
 use native.Mathlib.Omega.{arith}
 use borrow.Author.Needs.{needs}
-use Rattle.words.proofs.Moves.{Moved, moved-none, moved-up}
-use Rattle.words.proofs.move_up.Statement.{statement}
-use Rattle.words.proofs.move_up.Tie as tie
+use Rattle.moves.proofs.Moves.{Moved, moved-none, moved-up}
+use Rattle.moves.proofs.move_up.Statement.{statement}
+use Rattle.moves.proofs.move_up.Tie as tie
 
 abbrev Inv-loop : tie.InvT-loop
 Inv-loop buffer₀ from to n left₀ buffer left = (left ≤ n) × Moved buffer₀ (from + left) (to + left) (n - left) buffer

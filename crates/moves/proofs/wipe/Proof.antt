@@ -1,8 +1,8 @@
 use Prim.Native.Nat.{_-_}
 use borrow.Author.Needs.{needs}
 use Rattle.words.proofs.Stores.{Wiping, wipe-starts, wipe-on, wipe-ends}
-use Rattle.words.proofs.wipe.Statement.{statement}
-use Rattle.words.proofs.wipe.Tie as tie
+use Rattle.moves.proofs.wipe.Statement.{statement}
+use Rattle.moves.proofs.wipe.Tie as tie
 
 abbrev Inv-loop : tie.InvT-loop
 Inv-loop buffer₀ from to i₀ buffer i = Wiping buffer₀ from to buffer i
