@@ -32,7 +32,8 @@
  * Every call answers one number, 0 to 12, listed below. 0 is success.
  *
  *   On success, each lent number holds its result. Each buffer written holds its result first and its
- *   old content beyond. Both tables hold the state of the predictors after the last word.
+ *   old content beyond; only coil_replace clears more, where a file gets shorter. Both tables hold the
+ *   state of the predictors after the last word.
  *
  *   On a refusal, each lent number (length, count, offset, block_length, new_length) is 0. Nothing
  *   else you lent has changed, the tables included.
@@ -96,8 +97,13 @@ extern "C" {
  * the append is the new length, often much smaller. */
 #define COIL_APPEND_ROOM(length, n) ((size_t)(length) + 12 + COIL_WORST(n))
 
-/* Bytes of buffer in which k maps of at most n words can be kept, one append after the other. A file has at
- * most COIL_MOST_ENTRIES maps and COIL_MOST_FILE_BYTES bytes: beyond that an append answers 12 or 3. */
+/* Bytes of buffer that replacing the words of a slot by n words asks for, where the file has length bytes now
+ * and the slot's block has block_length of them. The answer of the replace is the new length. */
+#define COIL_REPLACE_ROOM(length, block_length, n) ((size_t)(length) - (size_t)(block_length) + COIL_WORST(n))
+
+/* Bytes of buffer in which k maps of at most n words can be kept, one append after the other, each replaced
+ * as often as you like. A file has at most COIL_MOST_ENTRIES maps and COIL_MOST_FILE_BYTES bytes: beyond that
+ * an append answers 12 or 3, and a replace 3. */
 #define COIL_FILE_ROOM(k, n) (COIL_EMPTY_FILE + (size_t)(k) * COIL_APPEND_ROOM(0, n))
 
 /* ---- Numbers answered ------------------------------------------------------------------------- */
@@ -109,8 +115,8 @@ extern "C" {
 #define COIL_BAD_TABLES 1u
 /* More than 65,536 words given, or declared by the block. */
 #define COIL_TOO_MANY_WORDS 2u
-/* A buffer you lent for the result has not enough room; or, for an append, COIL_APPEND_ROOM passes
- * 16,777,216 bytes. */
+/* A buffer you lent for the result has not enough room; or COIL_APPEND_ROOM, for an append, or
+ * COIL_REPLACE_ROOM, for a replace, passes 16,777,216 bytes. */
 #define COIL_NO_ROOM 3u
 /* The block is under 8 bytes, or the file under 32; or the file's length is beyond its buffer. */
 #define COIL_TOO_SHORT 4u
@@ -174,7 +180,7 @@ uint32_t coil_unpack(const uint8_t *block, size_t block_len,
 /* ---- Exam files ------------------------------------------------------------------------------- */
 
 /* A file is lent as a buffer of file_len bytes. The file itself is the first length bytes of it. What
- * lies beyond length is free room for appending. Keep the length with the buffer: each call that makes
+ * lies beyond length is free room to append and replace. Keep the length with the buffer: each call that makes
  * or changes a file answers the new one. To store the file on disk, write its first length bytes, best under
  * a new name that then replaces the old one, with a hash. To go on with it, read it into a buffer with room to
  * append. examples/exam_on_disk.c does both.
@@ -256,6 +262,35 @@ uint32_t coil_append(uint8_t *file, size_t file_len, size_t length, uint64_t exa
                      const uint64_t *words, size_t words_len,
                      uint64_t *fcm, size_t fcm_len, uint64_t *dfcm, size_t dfcm_len,
                      uint8_t *bench, size_t bench_len, size_t *new_length);
+
+/* Replace the words of a slot that is in the file. The file may get longer or shorter.
+ *
+ *   file, file_len     the buffer; lend at least COIL_REPLACE_ROOM(length, block_length, words_len) bytes, with
+ *                      the block_length that coil_find answers for the slot; length + COIL_WORST(words_len) bytes
+ *                      are always enough
+ *   length, exam       as for coil_open
+ *   slot               the slot whose words go
+ *   words, words_len   the new words, more or fewer than before; read only
+ *   fcm, dfcm          the two tables, of 2^t words with the file's t; cleared and used
+ *   bench, bench_len   room to pack in; lend at least COIL_WORST(words_len) bytes
+ *   new_length         becomes the file's new length, and 0 on a refusal: lend another variable than the
+ *                      one that holds the old length, which is still right then
+ *
+ * Checks in order: open (4, 7, 8, 9); 10 slot not in the file; 1 tables; 2 more than 65,536 words;
+ * 3 COIL_REPLACE_ROOM(length, block_length, words_len) above file_len or above 16,777,216, or bench_len under
+ * COIL_WORST(words_len).
+ * The old block is not looked at, so a damaged one can be replaced.
+ * On success the new block starts where the old one did, and is also in the first bytes of bench. Earlier blocks
+ * are where they were. Later blocks have moved, with their bytes as they were: ask coil_find again for their
+ * place. Every slot keeps its number, and exam number and t are as they were. A file that these calls made is,
+ * byte for byte, the one that coil_create and coil_append make afresh from the changed maps, where none of those
+ * appends is refused.
+ * Where the file got shorter, the bytes from *new_length up to the old length are 0, since they were patient
+ * data. The buffer beyond both lengths, and the bench beyond the block, are as they were. */
+uint32_t coil_replace(uint8_t *file, size_t file_len, size_t length, uint64_t exam, uint32_t slot,
+                      const uint64_t *words, size_t words_len,
+                      uint64_t *fcm, size_t fcm_len, uint64_t *dfcm, size_t dfcm_len,
+                      uint8_t *bench, size_t bench_len, size_t *new_length);
 
 #ifdef __cplusplus
 }

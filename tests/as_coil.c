@@ -11,6 +11,7 @@
 #define ref_find coil_find
 #define ref_fetch coil_fetch
 #define ref_append coil_append
+#define ref_replace coil_replace
 
 #ifndef REFERENCE_SOURCE
 #define REFERENCE_SOURCE "reference.c"

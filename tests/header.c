@@ -22,6 +22,9 @@ static uint32_t (*const fetch)(const uint8_t *, size_t, size_t, uint64_t, uint32
 static uint32_t (*const append)(uint8_t *, size_t, size_t, uint64_t, uint32_t, const uint64_t *, size_t,
                                 uint64_t *, size_t, uint64_t *, size_t,
                                 uint8_t *, size_t, size_t *) = coil_append;
+static uint32_t (*const replace)(uint8_t *, size_t, size_t, uint64_t, uint32_t, const uint64_t *, size_t,
+                                 uint64_t *, size_t, uint64_t *, size_t,
+                                 uint8_t *, size_t, size_t *) = coil_replace;
 
 static unsigned passed;
 static unsigned failed;
@@ -61,6 +64,8 @@ static void numbers_and_limits(void)
     is("append room", COIL_APPEND_ROOM(32, 1), 61);
     is("file room", COIL_FILE_ROOM(1 + 1, 1), 90);
     is("append room of a sum", 2 * COIL_APPEND_ROOM(30 + 2, 1 + 0), 122);
+    is("replace room", COIL_REPLACE_ROOM(53, 9, 1), 61);
+    is("replace room of sums", 2 * COIL_REPLACE_ROOM(50 + 3, 10 - 1, 1 + 0), 122);
 }
 
 static uint8_t file[COIL_APPEND_ROOM(COIL_EMPTY_FILE, 2)];
@@ -89,6 +94,12 @@ static void every_call_once(void)
     is("place", offset + block, length - 44);
     is("fetch", fetch(file, sizeof file, length, 7, 5, fcm, 8, dfcm, 8, back, 2, &count), COIL_DONE);
     is("words", 10 * back[0] + back[1] + count, 15);
+    is("replace", replace(file, sizeof file, length, 7, 5, words, 1, fcm, 8, dfcm, 8,
+                          bench, sizeof bench, &length), COIL_DONE);
+    is("one byte less", length, 54);
+    is("fetch what replaced them", fetch(file, sizeof file, length, 7, 5, fcm, 8, dfcm, 8, back, 2, &count),
+       COIL_DONE);
+    is("one word", 10 * back[0] + count, 11);
 }
 
 int main(void)

@@ -533,3 +533,78 @@ uint32_t ref_append(uint8_t *file, size_t file_len, size_t length, uint64_t exam
     *new_length = put_block_in(file, &f, exam, slot, bench, block_length);
     return 0;
 }
+
+/* The checks after find's. The entry is there already, so no room is asked for one. */
+static uint32_t refuse_replace(const opened_file *found, uint64_t old_size, size_t file_len, size_t length,
+                               size_t words_len, size_t fcm_len, size_t dfcm_len, size_t bench_len)
+{
+    if (refuse_file_tables(found, fcm_len, dfcm_len)) {
+        return 1;
+    }
+    if (words_len > MOST_WORDS) {
+        return 2;
+    }
+    uint64_t at_worst = length - old_size + worst_length(words_len);
+    if (at_worst > file_len) {
+        return 3;
+    }
+    if (at_worst > MOST_FILE_BYTES) {
+        return 3;
+    }
+    if (worst_length(words_len) > bench_len) {
+        return 3;
+    }
+    return 0;
+}
+
+/* Exchanges a block. What stands from it to the file's end is put together in a second buffer, in the order of
+ * the file: the new block, the later blocks, the directory, the trailer. What stands before it stays. */
+static size_t put_block_in_place(uint8_t *file, size_t length, const opened_file *found, uint64_t index,
+                                 const uint8_t *block, size_t new_size)
+{
+    uint64_t offset = entry_offset(file, found, index);
+    uint64_t old_size = entry_length(file, found, index);
+    size_t behind = length - (offset + old_size);
+    size_t new_end = offset + new_size + behind;
+    uint8_t *rest = room_for(new_size + behind);
+    memcpy(rest, block, new_size);
+    memcpy(rest + new_size, file + offset + old_size, behind);
+
+    uint8_t *trailer = rest + new_size + behind - TRAILER;
+    uint8_t *directory = trailer - ENTRY * found->entries;
+    write_field(directory + ENTRY * index + 8, 4, new_size);
+    for (uint64_t later = index + 1; later < found->entries; later++) {
+        uint64_t old_offset = entry_offset(file, found, later);
+        write_field(directory + ENTRY * later + 4, 4, old_offset - old_size + new_size);
+    }
+    write_field(trailer + 24, 8, new_end);
+
+    memcpy(file + offset, rest, new_size + behind);
+    for (size_t freed = new_end; freed < length; freed++) {
+        file[freed] = 0;
+    }
+    free(rest);
+    return new_end;
+}
+
+uint32_t ref_replace(uint8_t *file, size_t file_len, size_t length, uint64_t exam, uint32_t slot,
+                     const uint64_t *words, size_t words_len,
+                     uint64_t *fcm, size_t fcm_len, uint64_t *dfcm, size_t dfcm_len,
+                     uint8_t *bench, size_t bench_len, size_t *new_length)
+{
+    opened_file found;
+    uint64_t index = 0;
+    *new_length = 0;
+    uint32_t refusal = find_slot(file, file_len, length, exam, slot, &found, &index);
+    if (refusal) {
+        return refusal;
+    }
+    refusal = refuse_replace(&found, entry_length(file, &found, index), file_len, length, words_len,
+                             fcm_len, dfcm_len, bench_len);
+    if (refusal) {
+        return refusal;
+    }
+    size_t new_size = pack_now(words, words_len, fcm, dfcm, fcm_len, bench);
+    *new_length = put_block_in_place(file, length, &found, index, bench, new_size);
+    return 0;
+}

@@ -165,6 +165,70 @@ static void worked_files(void)
     holds(offset == 0 && block_length == 0, "refused: an empty part");
 }
 
+/* The files after a replace. Each block, offset, size, length and freed byte is worked out from the rules. */
+
+static void replaces_to(size_t length, uint32_t slot, const uint64_t *words, size_t count, size_t table,
+                        const char *hex)
+{
+    uint8_t expected[128];
+    size_t expected_length = from_hex(hex, expected), new_length = 1;
+    uint32_t answer = ref_replace(file, sizeof file, length, 7, slot, words, count, fcm, table, dfcm, table,
+                                  bench, WORST(count), &new_length);
+    size_t both_ends = new_length > length ? new_length : length;
+    int freed_is_zero = 1, beyond_is_kept = 1;
+    for (size_t i = new_length; i < length; i++) {
+        freed_is_zero = freed_is_zero && file[i] == 0;
+    }
+    for (size_t i = both_ends; i < sizeof file; i++) {
+        beyond_is_kept = beyond_is_kept && file[i] == 0xEE;
+    }
+    holds(answer == 0, "replacing");
+    holds(new_length == expected_length && memcmp(file, expected, expected_length) == 0, hex);
+    holds(freed_is_zero, "the freed bytes are 0");
+    holds(beyond_is_kept, "beyond both ends nothing changes");
+}
+
+/* The file of 53 bytes. Its t is 10, but the words 1, 2, 3 and their differences are so small that every hash is 0:
+ * the block is that of t = 0. Without words the file has 52 bytes, and three are freed; they were 0 already. */
+static void worked_replaces(void)
+{
+    const uint64_t ramp[] = { 1, 2, 3 }, zero[] = { 0 };
+    size_t length = 0;
+    memset(file, 0xEE, sizeof file);
+    ref_create(file, sizeof file, 7, 10, &length);
+    ref_append(file, sizeof file, length, 7, 3, zero, 1, fcm, 1024, dfcm, 1024, bench, sizeof bench, &length);
+    replaces_to(53, 3, ramp, 3, 1024, "03 00 00 00 0B 00 00 00 6F F7 01 03 00 00 00 00 00 00 00 0B 00 00 00 "
+                "63 6F 69 6C 01 00 0A 00 07 00 00 00 00 00 00 00 2C 00 00 00 01 00 00 00 37 00 00 00 00 00 00 00");
+    replaces_to(55, 3, ramp, 0, 1024, "00 00 00 00 08 00 00 00 03 00 00 00 00 00 00 00 08 00 00 00 "
+                "63 6F 69 6C 01 00 0A 00 07 00 00 00 00 00 00 00 2C 00 00 00 01 00 00 00 34 00 00 00 00 00 00 00");
+    memset(file + 52, 0xEE, 3);
+    replaces_to(52, 3, zero, 1, 1024, "01 00 00 00 09 00 00 00 77 03 00 00 00 00 00 00 00 09 00 00 00 "
+                "63 6F 69 6C 01 00 0A 00 07 00 00 00 00 00 00 00 2C 00 00 00 01 00 00 00 35 00 00 00 00 00 00 00");
+    length = 1;
+    holds(ref_replace(file, sizeof file, 53, 7, 4, zero, 1, fcm, 1024, dfcm, 1024, bench, 17, &length) == 10
+          && length == 0, "a slot that is not there");
+}
+
+/* Two maps with t = 0, of 25 and 10 bytes: the later one moves down by 16 and up by 2, and its offset with it. The 16
+ * bytes that are freed held the end of the old trailer, which is not all 0. */
+static void worked_moves(void)
+{
+    const uint64_t full[] = { UINT64_MAX, 0 }, one[] = { 1 }, ramp[] = { 1, 2, 3 }, zero[] = { 0 };
+    size_t length = 0;
+    memset(file, 0xEE, sizeof file);
+    ref_create(file, sizeof file, 7, 0, &length);
+    ref_append(file, sizeof file, length, 7, 3, full, 2, fcm, 1, dfcm, 1, bench, sizeof bench, &length);
+    ref_append(file, sizeof file, length, 7, 4, one, 1, fcm, 1, dfcm, 1, bench, sizeof bench, &length);
+    holds(length == 91 && file[75] == 0x38 && file[79] == 2 && file[83] == 91, "the file of two maps");
+    replaces_to(91, 3, zero, 1, 1, "01 00 00 00 09 00 00 00 77 01 00 00 00 0A 00 00 00 67 01 "
+                "03 00 00 00 00 00 00 00 09 00 00 00 04 00 00 00 09 00 00 00 0A 00 00 00 "
+                "63 6F 69 6C 01 00 00 00 07 00 00 00 00 00 00 00 38 00 00 00 02 00 00 00 4B 00 00 00 00 00 00 00");
+    memset(file + 75, 0xEE, 16);
+    replaces_to(75, 3, ramp, 3, 1, "03 00 00 00 0B 00 00 00 6F F7 01 01 00 00 00 0A 00 00 00 67 01 "
+                "03 00 00 00 00 00 00 00 0B 00 00 00 04 00 00 00 0B 00 00 00 0A 00 00 00 "
+                "63 6F 69 6C 01 00 00 00 07 00 00 00 00 00 00 00 38 00 00 00 02 00 00 00 4D 00 00 00 00 00 00 00");
+}
+
 /* ---- Round trips and room ---- */
 
 /* The least room that the promise allows: over every way to cut the words into runs of one fixed
@@ -222,6 +286,8 @@ int main(void)
     table_of_codes();
     worked_hashes();
     worked_files();
+    worked_replaces();
+    worked_moves();
     round_trips();
     printf("%u passed, %u failed\n", passed, failed);
     return failed != 0;
