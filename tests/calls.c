@@ -160,7 +160,10 @@ static void judge(const char *call, uint32_t library, uint32_t reference, const 
 
 static outcome result_of(uint32_t answer)
 {
-    outcome result = { answer, 0, 0, lent_reference(&the_block), NULL };
+    const uint8_t *block = lent_reference(&the_block);
+    const uint64_t *fcm = (const uint64_t *)(const void *)lent_reference(&the_fcm);
+    const uint64_t *dfcm = (const uint64_t *)(const void *)lent_reference(&the_dfcm);
+    outcome result = { answer, 0, 0, block, NULL, block, fcm, dfcm };
     return result;
 }
 
@@ -332,5 +335,47 @@ outcome compare_append(lent_file file, uint32_t slot, const uint64_t *words, siz
     outcome result = result_of(reference);
     result.first = number_of(&the_first);
     result.bytes = lent_reference(&the_file);
+    return result;
+}
+
+/* Beside both sides being equal: what a shorter file leaves free is 0, and nothing beyond both ends changes. */
+static void beyond_is_right(lent_file file, size_t new_length)
+{
+    const uint8_t *before = lent_before(&the_file), *after = lent_reference(&the_file);
+    size_t both_ends = new_length > file.length ? new_length : file.length;
+    bool all_zero = true;
+    for (size_t i = new_length; i < file.length; i++) {
+        all_zero = all_zero && after[i] == 0;
+    }
+    must_hold(all_zero, "the bytes that a shorter file leaves free are 0");
+    must_hold(memcmp(before + both_ends, after + both_ends, file.buffer - both_ends) == 0,
+              "beyond both ends the buffer is as it was");
+}
+
+outcome compare_replace(lent_file file, uint32_t slot, const uint64_t *words, size_t count,
+                        table_sizes tables, size_t bench_len)
+{
+    lend_file(file);
+    lent_set(&the_words, words, 8 * count, 8 * count);
+    lent_set(&the_block, NULL, 0, bench_len);
+    lend_tables(tables);
+    lend_numbers();
+    uint32_t library = coil_replace(LIB(the_file), file.length, file.exam, slot, LIB_WORDS(the_words),
+                                    LIB_WORDS(the_fcm), LIB_WORDS(the_dfcm), LIB(the_block),
+                                    LIB_NUMBER(the_first));
+    uint32_t reference = ref_replace(REF(the_file), file.length, file.exam, slot, REF_WORDS(the_words),
+                                     REF_WORDS(the_fcm), REF_WORDS(the_dfcm), REF(the_block),
+                                     REF_NUMBER(the_first));
+    const loan loans[] = {
+        { &the_file, WRITTEN }, { &the_words, ONLY_READ }, { &the_fcm, WRITTEN },
+        { &the_dfcm, WRITTEN }, { &the_block, WRITTEN }, { &the_first, A_NUMBER }
+    };
+    JUDGE("replace", loans);
+    outcome result = result_of(reference);
+    result.first = number_of(&the_first);
+    result.bytes = lent_reference(&the_file);
+    if (result.answer == 0) {
+        beyond_is_right(file, result.first);
+    }
     return result;
 }

@@ -12,8 +12,11 @@ typedef struct {
     uint32_t answer;            /* all as the reference gave them */
     size_t first;               /* length, count, offset or new length */
     size_t second;              /* find: the block's length */
-    const uint8_t *bytes;       /* pack: the block; append: the file. Until the next call. */
+    const uint8_t *bytes;       /* pack: the block; append, replace: the file. Until the next call. */
     const uint64_t *words;      /* unpack, fetch: the words. Until the next call. */
+    const uint8_t *bench;       /* append, replace: the bench. Until the next call. */
+    const uint64_t *fcm;        /* the tables, where the call was lent some. Until the next call. */
+    const uint64_t *dfcm;
 } outcome;
 
 /* Sizes of the two tables, in words. */
@@ -46,6 +49,8 @@ outcome compare_find(lent_file file, uint32_t slot);
 outcome compare_fetch(lent_file file, uint32_t slot, table_sizes tables, size_t room);
 outcome compare_append(lent_file file, uint32_t slot, const uint64_t *words, size_t count,
                        table_sizes tables, size_t bench_len);
+outcome compare_replace(lent_file file, uint32_t slot, const uint64_t *words, size_t count,
+                        table_sizes tables, size_t bench_len);
 
 /* Counts a failure where it does not hold: for what the rules say beside both sides being equal. */
 void must_hold(bool holds, const char *what);

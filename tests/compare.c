@@ -25,6 +25,7 @@ static const group groups[] = {
     { "blocks", group_blocks, "pack, check, unpack: every kind of words, every t, room and table size" },
     { "files", group_files, "create, append, open, find, fetch: lives of files, every length and room" },
     { "damage", group_damage, "every bit flipped, every cut, changed and forged fields" },
+    { "replace", group_replace, "lives with replaces, made afresh again; every size, place, distance and room" },
     { "order", group_order, "several rules broken at once, in every combination" },
     { "far", group_far, "65,536 words, 1,024 entries, 16 MiB, lengths beyond 32 bits" }
 };

@@ -98,7 +98,7 @@ static void damaged_blocks(unsigned rounds)
 
 static void try_file(lent_file lending, uint32_t t, size_t room)
 {
-    compare_open(lending);
+    uint32_t opened = compare_open(lending).answer;
     for (uint32_t slot = 0; slot < 7; slot++) {
         compare_find(lending, slot);
     }
@@ -107,6 +107,10 @@ static void try_file(lent_file lending, uint32_t t, size_t room)
     }
     lending.buffer += 12 + WORST(1);
     compare_append(lending, 5 + (uint32_t)random_below(5), one_word, 1, tables_of(t), WORST(1));
+    for (uint32_t slot = 0; slot < 7; slot += 1 + (uint32_t)random_below(5)) {
+        outcome replaced = compare_replace(lending, slot, one_word, 1, tables_of(t), WORST(1));
+        must_hold(opened == 0 || replaced.answer == opened, "a replace refuses what open refuses");
+    }
 }
 
 static void every_bit_of_a_file(exam_file *f)

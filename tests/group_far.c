@@ -45,6 +45,27 @@ static void most_words(unsigned rounds)
     }
 }
 
+/* The one map of a file is replaced by the most words there may be, in just enough room, and by none again. */
+static void replace_by_most_words(exam_file *f)
+{
+    size_t spare = WORST(MOST_WORDS + 1);
+    make_words(FCM_WIDTHS, words, MOST_WORDS + 1);
+    this_case_is("replaced by 65,536 and 65,537 words, and by none");
+    must_answer(compare_replace(lend_with_spare(f, spare), 1, words, MOST_WORDS + 1, tables_of(12),
+                                WORST(MOST_WORDS + 1)), 2);
+    outcome replaced = compare_replace(lend_with_spare(f, WORST(MOST_WORDS) - 8), 1, words, MOST_WORDS,
+                                       tables_of(12), WORST(MOST_WORDS));
+    must_answer(replaced, 0);
+    take_over_replaced(f, replaced);
+    outcome fetched = compare_fetch(lend_with_spare(f, 0), 1, tables_of(12), MOST_WORDS);
+    must_answer(fetched, 0);
+    must_hold(memcmp(fetched.words, words, sizeof words - 8) == 0, "fetching gives the words that replaced");
+    replaced = compare_replace(lend_with_spare(f, 0), 1, words, 0, tables_of(12), WORST(0));
+    must_answer(replaced, 0);
+    must_hold(replaced.first == 52, "a file of one block without words");
+    take_over_replaced(f, replaced);
+}
+
 static void most_words_in_a_file(void)
 {
     const size_t room = 12 + WORST(MOST_WORDS + 1);
@@ -61,6 +82,10 @@ static void most_words_in_a_file(void)
     outcome fetched = compare_fetch(lend_with_spare(&f, 0), 1, tables_of(12), MOST_WORDS);
     must_answer(fetched, 0);
     must_hold(memcmp(fetched.words, words, sizeof words - 8) == 0, "fetching gives the appended words");
+    outcome emptied = compare_replace(lend_with_spare(&f, 0), 1, words, 0, tables_of(12), WORST(0));
+    must_answer(emptied, 0);
+    take_over_replaced(&f, emptied);
+    replace_by_most_words(&f);
     forget_exam_file(&f);
 }
 
@@ -79,6 +104,23 @@ static void one_word_too_many(void)
 }
 
 /* ---- Entries ---- */
+
+/* No entry is added, so a full directory is no hindrance. */
+static void replace_in_a_full_file(exam_file *f)
+{
+    static const uint32_t some_slots[] = { 0, 1000, 3006, 3009 };
+    for (size_t i = 0; i < sizeof some_slots / sizeof some_slots[0]; i++) {
+        this_case_is("slot %u of 1,024 entries replaced", some_slots[i]);
+        outcome replaced = compare_replace(lend_with_spare(f, WORST(2)), some_slots[i], words, 2, tables_of(1),
+                                           WORST(2));
+        must_answer(replaced, 0);
+        take_over_replaced(f, replaced);
+        must_answer(compare_fetch(lend_with_spare(f, 0), some_slots[i], tables_of(1), 2), 0);
+        must_answer(compare_fetch(lend_with_spare(f, 0), 3000, tables_of(1), 2), 0);
+    }
+    must_answer(compare_replace(lend_with_spare(f, 29), 9000, words, 1, tables_of(1), 17), 10);
+    must_answer(compare_replace(lend_with_spare(f, 29), 1, words, 1, tables_of(1), 17), 10);
+}
 
 static void most_entries(void)
 {
@@ -101,26 +143,39 @@ static void most_entries(void)
     must_answer(compare_find(lend_with_spare(&f, 0), 1000), 0);
     must_answer(compare_find(lend_with_spare(&f, 0), 1001), 10);
     must_answer(compare_fetch(lend_with_spare(&f, 0), 3009, tables_of(1), 1), 0);
+    replace_in_a_full_file(&f);
     add_block(&f, 8000, empty_block, 8);
     this_case_is("file of 1,025 entries, right but for that");
     must_answer(compare_open(lend_with_spare(&f, 0)), 7);
     must_answer(compare_find(lend_with_spare(&f, 0), 8000), 7);
     must_answer(compare_append(lend_with_spare(&f, 29), 9000, words, 1, tables_of(1), 17), 7);
+    must_answer(compare_replace(lend_with_spare(&f, 29), 8000, words, 1, tables_of(1), 17), 7);
     forget_exam_file(&f);
 }
 
 /* ---- 16 MiB ---- */
 
-/* A file of exactly that many bytes: one entry, whose block is not looked at by the calls tried here. */
+/* A long block. Its two fields are 0, so it is not well formed; what follows is random, so that a part that does
+ * not move with the rest is seen. */
+static const uint8_t *filling(void)
+{
+    static uint8_t *bytes;
+    if (bytes == NULL) {
+        bytes = calloc(LIMIT + 64, 1);
+        must_hold(bytes != NULL, "memory for the filling");
+        for (size_t at = 8; at < LIMIT; at += 8) {
+            uint64_t any = random_word();
+            memcpy(bytes + at, &any, 8);
+        }
+    }
+    return bytes;
+}
+
+/* A file of exactly that many bytes, with one entry. */
 static exam_file file_of_length(size_t length)
 {
-    static uint8_t *filling;
-    if (filling == NULL) {
-        filling = calloc(LIMIT + 64, 1);
-    }
-    must_hold(filling != NULL, "memory for the filling");
     exam_file f = new_exam_file(length, 6, 3);
-    add_block(&f, 5, filling, length - 44);
+    add_block(&f, 5, filling(), length - 44);
     return f;
 }
 
@@ -135,6 +190,9 @@ static void file_at_the_limit(void)
         must_answer(compare_fetch(lend_with_spare(&f, 0), 5, tables_of(3), 9), expected ? 7 : 5);
         must_answer(compare_append(lend_with_spare(&f, 100), 6, words, 1, tables_of(3), 17),
                     expected ? 7 : 3);
+        if (length == LIMIT) {
+            must_answer(compare_replace(lend_with_spare(&f, 0), 5, words, 1, tables_of(3), 17), 0);
+        }
         lent_file beyond = lend_with_spare(&f, 0);
         beyond.buffer--;
         must_answer(compare_open(beyond), 4);
@@ -158,6 +216,52 @@ static void append_up_to_the_limit(size_t count)
     }
 }
 
+/* Two blocks in a file of exactly that many bytes: a block of 9 bytes in slot 4, and a long one in slot 5. */
+static exam_file file_of_two(size_t length)
+{
+    exam_file f = new_exam_file(length, 6, 3);
+    add_block(&f, 4, filling(), 9);
+    add_block(&f, 5, filling(), length - 65);
+    return f;
+}
+
+/* A replace may reach the limit in the worst case, and not pass it, however large the buffer is. It asks for no
+ * entry: an append of the same words is refused. */
+static void replace_up_to_the_limit(size_t count)
+{
+    size_t spare = WORST(count) - 9;
+    exam_file f = file_of_two(LIMIT - spare);
+    this_case_is("replaced by %zu words, up to the limit", count);
+    must_answer(compare_replace(lend_with_spare(&f, spare), 4, words, count, tables_of(3), WORST(count)), 0);
+    must_answer(compare_append(lend_with_spare(&f, spare + 100), 6, words, count, tables_of(3), WORST(count)), 3);
+    forget_exam_file(&f);
+    f = file_of_two(LIMIT - spare + 1);
+    this_case_is("replaced by %zu words, one byte beyond the limit", count);
+    must_answer(compare_replace(lend_with_spare(&f, spare + 100), 4, words, count, tables_of(3), WORST(count)), 3);
+    forget_exam_file(&f);
+}
+
+/* A short block becomes long, so that a mebibyte moves up, and short again. */
+static void move_much(void)
+{
+    exam_file f = new_exam_file(2 << 20, 6, 3);
+    uint8_t mark[20];
+    random_bytes(mark, sizeof mark);
+    add_block(&f, 5, filling(), 9);
+    add_block(&f, 6, filling(), 1 << 20);
+    add_block(&f, 7, mark, sizeof mark);
+    for (size_t count = 65000; count > 0; count /= 250) {
+        this_case_is("much moves for %zu words", count);
+        outcome replaced = compare_replace(lend_with_spare(&f, WORST(count)), 5, words, count, tables_of(3),
+                                           WORST(count));
+        must_answer(replaced, 0);
+        take_over_replaced(&f, replaced);
+        must_hold(memcmp(f.bytes + get_field(entry_of(&f, 2) + AT_OFFSET, 4), mark, sizeof mark) == 0,
+                  "the last block is as it was");
+    }
+    forget_exam_file(&f);
+}
+
 /* ---- Ends of the numbers ---- */
 
 static void ends_of_slot_and_exam(void)
@@ -172,6 +276,9 @@ static void ends_of_slot_and_exam(void)
     must_answer(compare_find(lend_with_spare(&f, 0), 1), 10);
     must_answer(compare_append(lend_with_spare(&f, 29), 0, words, 1, tables_of(0), 17), 11);
     must_answer(compare_append(lend_with_spare(&f, 29), UINT32_MAX, words, 1, tables_of(0), 17), 11);
+    must_answer(compare_replace(lend_with_spare(&f, 29), 0, words, 1, tables_of(0), 17), 0);
+    must_answer(compare_replace(lend_with_spare(&f, 29), UINT32_MAX, words, 1, tables_of(0), 17), 0);
+    must_answer(compare_replace(lend_with_spare(&f, 29), 1, words, 1, tables_of(0), 17), 10);
     f.exam = UINT32_MAX;
     must_answer(compare_open(lend_with_spare(&f, 0)), 8);
     f.exam = 0;
@@ -232,6 +339,39 @@ static void far_files(uint8_t *memory)
     forget_exam_file(&f);
 }
 
+/* The word 1 in slot 5 replaced by the word 2, or by many: both blocks have 10 bytes, so that a second time changes
+ * nothing more. */
+static void far_replace(const char *what, uint32_t expected, uint8_t *memory, size_t buffer, size_t length,
+                        const uint64_t *new_words, size_t count, uint64_t *fcm, uint64_t *dfcm, size_t table)
+{
+    uint8_t bench[17];
+    size_t number = 1;
+    uint32_t library = coil_replace(memory, buffer, length, 6, 5, new_words, count, fcm, table, dfcm, table,
+                                    bench, sizeof bench, &number);
+    must_hold(number == (expected ? 0 : 54), "the library's length after a replace");
+    uint32_t reference = ref_replace(memory, buffer, length, 6, 5, new_words, count, fcm, table, dfcm, table,
+                                     bench, sizeof bench, &number);
+    must_hold(number == (expected ? 0 : 54), "the reference's length after a replace");
+    judge_far(what, library, reference, expected);
+}
+
+static void far_replaces(uint8_t *memory, uint64_t *far_words, uint64_t *more_words)
+{
+    static const uint8_t one[10] = { 1, 0, 0, 0, 10, 0, 0, 0, 0x67, 1 };
+    const size_t far = FAR;
+    const uint64_t two = 2;
+    uint64_t fcm[1], dfcm[1];
+    exam_file f = new_exam_file(54, 6, 0);
+    add_block(&f, 5, one, sizeof one);
+    memcpy(memory, f.bytes, 54);
+    far_replace("replace by many words", 2, memory, far, 54, far_words, far + 1, fcm, dfcm, 1);
+    far_replace("replace with long tables", 1, memory, far, 54, &two, 1, far_words, more_words, far + 1);
+    far_replace("replace in a long file", 7, memory, far + 54, far + 54, &two, 1, fcm, dfcm, 1);
+    far_replace("replace in a large buffer", 0, memory, far + 53, 54, &two, 1, fcm, dfcm, 1);
+    must_hold(memory[9] == 2, "the word is replaced");
+    forget_exam_file(&f);
+}
+
 /* The memory is only promised, not used: all but a few pages are never touched. */
 static void lengths_beyond_32_bits(void)
 {
@@ -247,6 +387,7 @@ static void lengths_beyond_32_bits(void)
     }
     far_blocks(memory[0], memory[1], memory[2]);
     far_files(memory[0]);
+    far_replaces(memory[0], memory[1], memory[2]);
     for (unsigned i = 0; i < 3; i++) {
         munmap(memory[i], bytes);
     }
@@ -263,5 +404,7 @@ void group_far(unsigned rounds)
     file_at_the_limit();
     append_up_to_the_limit(1);
     append_up_to_the_limit(301);
+    replace_up_to_the_limit(301);
+    move_much();
     lengths_beyond_32_bits();
 }

@@ -175,6 +175,7 @@ static void every_length(unsigned round)
         compare_find(lending, (uint32_t)random_below(8));
         compare_fetch(lending, (uint32_t)random_below(8), tables_of(f.t), 10);
         compare_append(lending, 100, words, 1, tables_of(f.t), 17);
+        compare_replace(lending, (uint32_t)random_below(8), words, 1, tables_of(f.t), 17);
         lending = lend_with_spare(&f, 0);
         lending.buffer = length;
         must_answer(compare_open(lending), length < f.length ? 4 : 0);
@@ -184,10 +185,12 @@ static void every_length(unsigned round)
         this_case_is("length %zu of a file of %zu", huge_lengths[i], f.length);
         lending.length = huge_lengths[i];
         must_answer(compare_open(lending), 4);
+        must_answer(compare_replace(lending, 0, words, 1, tables_of(f.t), 17), 4);
         lending.length = huge_lengths[i] + f.length;
         compare_open(lending);
         compare_find(lending, 0);
         compare_append(lending, 100, words, 1, tables_of(f.t), 17);
+        compare_replace(lending, 0, words, 1, tables_of(f.t), 17);
     }
     forget_exam_file(&f);
 }

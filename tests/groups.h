@@ -5,6 +5,7 @@
 void group_blocks(unsigned rounds);
 void group_files(unsigned rounds);
 void group_damage(unsigned rounds);
+void group_replace(unsigned rounds);
 void group_order(unsigned rounds);
 void group_far(unsigned rounds);
 

@@ -107,6 +107,15 @@ void take_over(exam_file *f, outcome appended)
     f->entries++;
 }
 
+void take_over_replaced(exam_file *f, outcome replaced)
+{
+    if (replaced.answer != 0) {
+        return;
+    }
+    memcpy(f->bytes, replaced.bytes, replaced.first);
+    f->length = replaced.first;
+}
+
 lent_file lend_with_spare(const exam_file *f, size_t spare)
 {
     lent_file lending = { f->bytes, f->length, f->length + spare, f->length, f->exam };

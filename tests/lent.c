@@ -86,6 +86,11 @@ uint8_t *lent_reference(const lent *l)
     return l->reference_end - l->guard_behind - l->size;
 }
 
+const uint8_t *lent_before(const lent *l)
+{
+    return l->before_end - l->guard_behind - l->size;
+}
+
 static bool guards_differ(const lent *l, const uint8_t *end)
 {
     const uint8_t *before = l->before_end - whole_size(l);

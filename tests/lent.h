@@ -29,6 +29,8 @@ void lent_set(lent *l, const void *content, size_t content_size, size_t size);
 
 uint8_t *lent_library(const lent *l);
 uint8_t *lent_reference(const lent *l);
+/* What both held before the call. */
+const uint8_t *lent_before(const lent *l);
 
 /* A fault of the library's or of the reference's copy after the call, in words; null where none.
  * Where unchanged is set, the content must be as it was before. */

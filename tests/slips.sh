@@ -330,7 +330,8 @@ slip "append: bench one byte short accepted" 'if (bench_len < worst_length(words
     'if (bench_len + 1 < worst_length(words_len)) {'
 slip "append: exactly enough bench refused" 'if (bench_len < worst_length(words_len)) {' \
     'if (bench_len <= worst_length(words_len)) {'
-slip "append: a refusal leaves the length" '*new_length = 0;' ''
+slip "append: a refusal leaves the length" '*new_length = 0;
+    uint32_t refusal = open_file' 'uint32_t refusal = open_file'
 slip "append: a refusal clears a table" 'refusal = refuse_append(file' \
     'fcm[0] = fcm_len > 0 ? 0 : fcm[0]; refusal = refuse_append(file'
 slip "append: packs into the bench before a refusal" 'refusal = refuse_append(file' \
@@ -373,3 +374,102 @@ slip "append: 65,537 words accepted" 'if (words_len > MOST_WORDS) {
 slip "append: rest of the buffer changed" 'free(old_directory);' \
     'free(old_directory); file[at + TRAILER] = 0;'
 slip "append: length without the trailer" 'return at + TRAILER;' 'return at;'
+
+# ---- Replacing
+slip "replace: own offset shifted too" 'write_field(directory + ENTRY * index + 8, 4, new_size);' \
+    'write_field(directory + ENTRY * index + 8, 4, new_size);
+    write_field(directory + ENTRY * index + 4, 4, offset - old_size + new_size);'
+slip "replace: later offsets not shifted" \
+    'write_field(directory + ENTRY * later + 4, 4, old_offset - old_size + new_size);' ''
+slip "replace: the last offset not shifted" 'later = index + 1; later < found->entries; later++' \
+    'later = index + 1; later + 1 < found->entries; later++'
+slip "replace: earlier offsets shifted" 'later = index + 1; later < found->entries; later++' \
+    'later = 1; later < found->entries; later++'
+slip "replace: shifted by the new size" 'old_offset - old_size + new_size' 'old_offset + new_size'
+slip "replace: old size kept in the entry" 'write_field(directory + ENTRY * index + 8, 4, new_size);' ''
+slip "replace: old length left in the trailer" 'write_field(trailer + 24, 8, new_end);' ''
+slip "replace: old length answered" 'free(rest);
+    return new_end;' 'free(rest);
+    return length;'
+slip "replace: freed bytes left" 'file[freed] = 0;' ''
+slip "replace: the old length field left behind" 'freed = new_end; freed < length; freed++' \
+    'freed = new_end; freed + 8 < length; freed++'
+slip "replace: zeroed beyond the old end" 'freed = new_end; freed < length; freed++' \
+    'freed = new_end; freed <= length; freed++'
+slip "replace: zeroed beyond a longer file" 'free(rest);' 'if (new_end > length) { file[new_end] = 0; }
+    free(rest);'
+slip "replace: later blocks moved up over themselves" \
+    'memcpy(rest + new_size, file + offset + old_size, behind);' \
+    'for (size_t k = 0; k < behind; k++) { file[offset + new_size + k] = file[offset + old_size + k]; }
+    memcpy(rest + new_size, file + offset + new_size, behind);'
+slip "replace: later blocks moved down over themselves" \
+    'memcpy(rest + new_size, file + offset + old_size, behind);' \
+    'for (size_t k = behind; k-- > 0;) { file[offset + new_size + k] = file[offset + old_size + k]; }
+    memcpy(rest + new_size, file + offset + new_size, behind);'
+slip "replace: block written before the others were moved" 'memcpy(rest, block, new_size);' \
+    'memcpy(rest, block, new_size); memcpy(file + offset, block, new_size);'
+slip "replace: old block must be well formed" 'refusal = refuse_replace(&found' \
+    'uint64_t count; refusal = refuse_block(file + entry_offset(file, &found, index),
+        entry_length(file, &found, index), &count); if (refusal) { return refusal; }
+    refusal = refuse_replace(&found'
+slip "replace: only the last slot" 'refusal = refuse_replace(&found' \
+    'if (index + 1 < found.entries) { return 11; } refusal = refuse_replace(&found'
+slip "replace: a full file refused" 'refusal = refuse_replace(&found' \
+    'if (found.entries >= MOST_ENTRIES) { return 12; } refusal = refuse_replace(&found'
+slip "replace: tables before slot" '*new_length = 0;
+    uint32_t refusal = find_slot' '*new_length = 0;
+    uint32_t refusal = open_file(file, file_len, length, exam, &found);
+    if (!refusal && refuse_file_tables(&found, fcm_len, dfcm_len)) { return 1; }
+    refusal = find_slot'
+slip "replace: tables of any size" 'if (refuse_file_tables(found, fcm_len, dfcm_len)) {' \
+    'if (refuse_tables(fcm_len, dfcm_len)) {'
+slip "replace: count before tables" 'if (refuse_file_tables(found, fcm_len, dfcm_len)) {' \
+    'if (words_len > MOST_WORDS) { return 2; } if (refuse_file_tables(found, fcm_len, dfcm_len)) {'
+slip "replace: room before count" 'if (words_len > MOST_WORDS) {
+        return 2;
+    }
+    uint64_t at_worst' 'if (worst_length(words_len) > bench_len) { return 3; }
+    if (words_len > MOST_WORDS) {
+        return 2;
+    }
+    uint64_t at_worst'
+slip "replace: 65,536 words refused" 'if (words_len > MOST_WORDS) {
+        return 2;
+    }
+    uint64_t at_worst' 'if (words_len >= MOST_WORDS) {
+        return 2;
+    }
+    uint64_t at_worst'
+slip "replace: 65,537 words accepted" 'if (words_len > MOST_WORDS) {
+        return 2;
+    }
+    uint64_t at_worst' 'if (words_len > MOST_WORDS + 1) {
+        return 2;
+    }
+    uint64_t at_worst'
+slip "replace: room asked for an entry" 'length - old_size + worst_length(words_len)' \
+    'length - old_size + ENTRY + worst_length(words_len)'
+slip "replace: old block not taken off the room" 'length - old_size + worst_length(words_len)' \
+    'length + worst_length(words_len)'
+slip "replace: one byte of room too few accepted" 'if (at_worst > file_len) {' 'if (at_worst > file_len + 1) {'
+slip "replace: exactly enough room refused" 'if (at_worst > file_len) {' 'if (at_worst >= file_len) {'
+slip "replace: file limit forgotten" 'if (at_worst > MOST_FILE_BYTES) {' 'if (0) {'
+slip "replace: file limit exactly refused" 'if (at_worst > MOST_FILE_BYTES) {' \
+    'if (at_worst >= MOST_FILE_BYTES) {'
+slip "replace: bench one byte short accepted" 'if (worst_length(words_len) > bench_len) {' \
+    'if (worst_length(words_len) > bench_len + 1) {'
+slip "replace: exactly enough bench refused" 'if (worst_length(words_len) > bench_len) {' \
+    'if (worst_length(words_len) >= bench_len) {'
+slip "replace: a refusal leaves the length" '*new_length = 0;
+    uint32_t refusal = find_slot' 'uint32_t refusal = find_slot'
+slip "replace: a refusal clears a table" 'refusal = refuse_replace(&found' \
+    'fcm[0] = fcm_len > 0 ? 0 : fcm[0]; refusal = refuse_replace(&found'
+slip "replace: packs into the bench before a refusal" 'refusal = refuse_replace(&found' \
+    'if (bench_len > 0) { bench[0] = 0; } refusal = refuse_replace(&found'
+slip "replace: tables left as they were" 'size_t new_size = pack_now(words, words_len, fcm, dfcm, fcm_len, bench);' \
+    'size_t new_size = pack_now(words, words_len, room_for(8 * fcm_len), room_for(8 * fcm_len), fcm_len, bench);'
+slip "replace: bench not filled" 'size_t new_size = pack_now(words, words_len, fcm, dfcm, fcm_len, bench);
+    *new_length = put_block_in_place(file, length, &found, index, bench, new_size);' \
+    'uint8_t *own = room_for(worst_length(words_len));
+    size_t new_size = pack_now(words, words_len, fcm, dfcm, fcm_len, own);
+    *new_length = put_block_in_place(file, length, &found, index, own, new_size);'

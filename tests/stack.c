@@ -33,6 +33,18 @@ static void append(void)
                          dfcm, COIL_TABLE_WORDS(T), bench, sizeof bench, &file_length);
 }
 
+static void replace_by_fewer(void)
+{
+    answer = coil_replace(file, sizeof file, file_length, EXAM, 1, words, COUNT / 3, fcm, COIL_TABLE_WORDS(T),
+                          dfcm, COIL_TABLE_WORDS(T), bench, sizeof bench, &file_length);
+}
+
+static void replace_by_more(void)
+{
+    answer = coil_replace(file, sizeof file, file_length, EXAM, 1, words, COUNT, fcm, COIL_TABLE_WORDS(T),
+                          dfcm, COIL_TABLE_WORDS(T), bench, sizeof bench, &file_length);
+}
+
 static void open_it(void)
 {
     answer = coil_open(file, sizeof file, file_length, EXAM);
@@ -92,7 +104,9 @@ int main(void)
     static const struct {
         const char *name;
         void (*call)(void);
-    } calls[] = { { "coil_create", create }, { "coil_append", append }, { "coil_open", open_it },
+    } calls[] = { { "coil_create", create }, { "coil_append", append },
+                  { "coil_replace by fewer words", replace_by_fewer },
+                  { "coil_replace by more words", replace_by_more }, { "coil_open", open_it },
                   { "coil_find", find }, { "coil_fetch", fetch }, { "coil_pack", pack },
                   { "coil_check", check }, { "coil_unpack", unpack } };
     unsigned passed = 0, failed = 0;

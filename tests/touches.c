@@ -1,5 +1,6 @@
 /* What the file calls touch. The blocks of a large file stand in pages that may be neither read nor written:
- * opening, finding and appending must get along without them. A call that touches one ends the program.
+ * opening, finding and appending must get along without them, and replacing without those before the block that it
+ * replaces. A call that touches one ends the program.
  */
 #define _DEFAULT_SOURCE
 #include "coil.h"
@@ -10,7 +11,14 @@
 #include <sys/mman.h>
 #include <unistd.h>
 
+enum { ROOM = COIL_MOST_FILE_BYTES + 65536 };
+
 static unsigned passed, failed;
+
+static const uint64_t words[3] = { 1, 2, 3 };
+static uint64_t fcm[1], dfcm[1];
+static uint8_t bench[COIL_WORST(3)];
+static uint8_t *file;
 
 static void is(const char *what, size_t value, size_t expected)
 {
@@ -22,45 +30,89 @@ static void is(const char *what, size_t value, size_t expected)
     }
 }
 
-/* Takes away all pages before the one in which the directory starts. */
-static size_t lock_blocks(uint8_t *file, size_t length, size_t entries)
+static void protect(size_t bytes, int allowed)
 {
-    size_t page = (size_t)sysconf(_SC_PAGESIZE);
-    size_t locked = (length - TRAILER - ENTRY * entries) / page * page;
-    if (mprotect(file, locked, PROT_NONE) != 0) {
+    if (mprotect(file, bytes, allowed) != 0) {
         perror("mprotect");
         failed++;
     }
+}
+
+/* Takes away all pages before the one in which the place is. */
+static size_t lock_before(size_t place)
+{
+    size_t page = (size_t)sysconf(_SC_PAGESIZE);
+    size_t locked = place / page * page;
+    protect(locked, PROT_NONE);
     return locked;
+}
+
+static void unlock(size_t locked)
+{
+    protect(locked, PROT_READ | PROT_WRITE);
+}
+
+static size_t directory_of(size_t length, size_t entries)
+{
+    return length - TRAILER - ENTRY * entries;
+}
+
+static void open_and_find(size_t length)
+{
+    size_t offset, size;
+    lay_out(file, length, 1024);
+    size_t locked = lock_before(directory_of(length, 1024));
+    printf("16,777,216 bytes and 1,024 entries, of which %zu bytes may not be touched\n", locked);
+    is("open", coil_open(file, ROOM, length, EXAM), COIL_DONE);
+    is("open as another exam", coil_open(file, ROOM, length, EXAM + 1), COIL_WRONG_EXAM);
+    is("find the last slot", coil_find(file, ROOM, length, EXAM, 10230, &offset, &size), COIL_DONE);
+    is("its end", offset + size, directory_of(length, 1024));
+    is("find no slot", coil_find(file, ROOM, length, EXAM, 5, &offset, &size), COIL_NO_SUCH_SLOT);
+    unlock(locked);
+}
+
+static void append(size_t length)
+{
+    size_t new_length;
+    lay_out(file, length, 1023);
+    size_t locked = lock_before(directory_of(length, 1023));
+    is("append", coil_append(file, ROOM, length, EXAM, 10230, words, 1, fcm, 1, dfcm, 1, bench, sizeof bench,
+                             &new_length), COIL_DONE);
+    is("new length", new_length, length + ENTRY + 10);
+    is("open after the append", coil_open(file, ROOM, new_length, EXAM), COIL_DONE);
+    unlock(locked);
+}
+
+/* By one word, and then by three: what stands behind the block moves down, and then up again. */
+static void replace(size_t length, uint32_t slot)
+{
+    size_t offset, size, shorter, longer;
+    lay_out(file, length, 1024);
+    is("find the slot", coil_find(file, ROOM, length, EXAM, slot, &offset, &size), COIL_DONE);
+    size_t locked = lock_before(offset);
+    printf("replacing slot %u, at byte %zu: %zu bytes may not be touched\n", (unsigned)slot, offset, locked);
+    is("replace by fewer bytes", coil_replace(file, ROOM, length, EXAM, slot, words, 1, fcm, 1, dfcm, 1,
+                                              bench, sizeof bench, &shorter), COIL_DONE);
+    is("shorter", shorter, length - size + 10);
+    is("replace by more bytes", coil_replace(file, ROOM, shorter, EXAM, slot, words, 3, fcm, 1, dfcm, 1,
+                                             bench, sizeof bench, &longer), COIL_DONE);
+    is("longer", longer, shorter + 1);
+    is("open after the replaces", coil_open(file, ROOM, longer, EXAM), COIL_DONE);
+    unlock(locked);
 }
 
 int main(void)
 {
-    size_t most = COIL_MOST_FILE_BYTES, room = most + 65536, offset, size, new_length;
-    uint64_t word = 1, fcm[1], dfcm[1];
-    uint8_t bench[COIL_WORST(1)];
-    uint8_t *file = (uint8_t *)mmap(NULL, room, PROT_READ | PROT_WRITE, MAP_PRIVATE | MAP_ANONYMOUS, -1, 0);
-    if (file == MAP_FAILED) {
+    void *memory = mmap(NULL, ROOM, PROT_READ | PROT_WRITE, MAP_PRIVATE | MAP_ANONYMOUS, -1, 0);
+    if (memory == MAP_FAILED) {
         perror("mmap");
         return 1;
     }
-    lay_out(file, most, 1024);
-    size_t locked = lock_blocks(file, most, 1024);
-    printf("16,777,216 bytes and 1,024 entries, of which %zu bytes may not be touched\n", locked);
-    is("open", coil_open(file, room, most, EXAM), COIL_DONE);
-    is("open as another exam", coil_open(file, room, most, EXAM + 1), COIL_WRONG_EXAM);
-    is("find the last slot", coil_find(file, room, most, EXAM, 10230, &offset, &size), COIL_DONE);
-    is("its end", offset + size, most - TRAILER - ENTRY * 1024);
-    is("find no slot", coil_find(file, room, most, EXAM, 5, &offset, &size), COIL_NO_SUCH_SLOT);
-    mprotect(file, locked, PROT_READ | PROT_WRITE);
-
-    size_t length = most - 65536;
-    lay_out(file, length, 1023);
-    lock_blocks(file, length, 1023);
-    is("append", coil_append(file, room, length, EXAM, 10230, &word, 1, fcm, 1, dfcm, 1, bench, sizeof bench,
-                             &new_length), COIL_DONE);
-    is("new length", new_length, length + ENTRY + 10);
-    is("open after the append", coil_open(file, room, new_length, EXAM), COIL_DONE);
+    file = memory;
+    open_and_find(COIL_MOST_FILE_BYTES);
+    append(COIL_MOST_FILE_BYTES - 65536);
+    replace(COIL_MOST_FILE_BYTES, 5120);
+    replace(COIL_MOST_FILE_BYTES, 10230);
     printf("%u passed, %u failed\n", passed, failed);
     return failed != 0;
 }

@@ -18,6 +18,8 @@ static uint64_t dfcm[MOST_TABLE];
 static const uint64_t many_words[COIL_MOST_WORDS + 1];
 static const uint64_t zero[1] = { 0 };
 static const uint64_t one[7] = { 1, 1, 1, 1, 1, 1, 1 };
+static const uint64_t ramp[3] = { 1, 2, 3 };
+static const uint64_t full[2] = { UINT64_MAX, 0 };
 
 /* The file of a group of cases. The buffer is lent with file_len bytes. */
 static uint8_t file[128];
@@ -155,6 +157,31 @@ static void append_zero(size_t length, uint64_t exam, uint32_t slot, size_t benc
     append(length, exam, slot, zero, 1, 2, 2, bench_len);
 }
 
+static void replace(size_t length, uint64_t exam, uint32_t slot, const uint64_t *words, size_t count,
+                    size_t fcm_len, size_t dfcm_len, size_t bench_len)
+{
+    size_t new_length = NOT_ANSWERED;
+    printf("replace slot %u of exam %llu in %zu bytes, words", (unsigned)slot, (unsigned long long)exam, length);
+    print_given_words(words, count);
+    printf(", tables of %zu and %zu, buffer %zu, bench %zu", fcm_len, dfcm_len, file_len, bench_len);
+    uint32_t answer = coil_replace(file, file_len, length, exam, slot, words, count, fcm, fcm_len,
+                                   dfcm, dfcm_len, bench, bench_len, &new_length);
+    printf(": answers %u, length %zu\n", (unsigned)answer, new_length);
+}
+
+/* Replaces by the one word 1 with tables of 2 words. */
+static void replace_by_one(size_t length, uint64_t exam, uint32_t slot, size_t bench_len)
+{
+    replace(length, exam, slot, one, 1, 2, 2, bench_len);
+}
+
+/* The first bytes of the buffer: a file, and what lies beyond it. */
+static void print_buffer(size_t count)
+{
+    print_bytes(file, count);
+    printf("\n");
+}
+
 /* Prints the bytes at the place that is answered, which must be in the file. */
 static void find(size_t length, uint64_t exam, uint32_t slot)
 {
@@ -207,8 +234,7 @@ static void make_one_map(void)
 
 static void blocks_worked_by_hand(void)
 {
-    const uint64_t ramp[] = { 1, 2, 3 }, one_three[] = { 1, 3 }, four_bytes[] = { 0x80000000 };
-    const uint64_t full[] = { UINT64_MAX, 0 };
+    const uint64_t one_three[] = { 1, 3 }, four_bytes[] = { 0x80000000 };
     const uint64_t equal[] = {
         UINT64_C(0x3FF0000000000000), UINT64_C(0x3FF0000000000000), UINT64_C(0x3FF0000000000000)
     };
@@ -292,11 +318,9 @@ static void files_worked_by_hand(void)
     printf("Files worked by hand\n");
     lend_buffer(128);
     create(7, 10);
-    print_bytes(file, 32);
-    printf("\n");
+    print_buffer(32);
     append(32, 7, 3, zero, 1, 1024, 1024, 17);
-    print_bytes(file, 53);
-    printf("\n");
+    print_buffer(53);
     open_file(53, 7);
     find(53, 7, 3);
     fetch(53, 7, 3, 1024, 1024, 8);
@@ -446,6 +470,88 @@ static void refusals_to_append(void)
     append_zero(53, 7, 2, 17);
 }
 
+/* The file of 53 bytes with its map replaced by three words, and by none: then three bytes are freed. The last byte
+ * printed lies beyond both files, and is as it was. */
+static void replace_the_only_map(void)
+{
+    printf("The map of the file of 53 bytes replaced\n");
+    make_one_map();
+    file_len = 128;
+    replace(53, 7, 3, ramp, 3, 1024, 1024, 34);
+    print_buffer(56);
+    fetch(55, 7, 3, 1024, 1024, 8);
+    replace(55, 7, 3, ramp, 0, 1024, 1024, 8);
+    print_buffer(56);
+    fetch(52, 7, 3, 1024, 1024, 8);
+}
+
+/* Two maps. The first is replaced by fewer bytes, so that the second moves down and sixteen bytes are freed, and by
+ * more; then the second by fewer. */
+static void replace_one_of_two_maps(void)
+{
+    printf("One of two maps replaced\n");
+    lend_buffer(128);
+    create(7, 0);
+    append(32, 7, 3, full, 2, 1, 1, 25);
+    append(69, 7, 4, one, 1, 1, 1, 17);
+    print_buffer(92);
+    replace(91, 7, 3, zero, 1, 1, 1, 17);
+    print_buffer(92);
+    find(75, 7, 4);
+    fetch(75, 7, 4, 1, 1, 8);
+    replace(75, 7, 3, ramp, 3, 1, 1, 34);
+    print_buffer(77);
+    fetch(77, 7, 3, 1, 1, 8);
+    fetch(77, 7, 4, 1, 1, 8);
+    replace(77, 7, 4, one, 0, 1, 1, 8);
+    print_buffer(77);
+    fetch(75, 7, 3, 1, 1, 8);
+    fetch(75, 7, 4, 1, 1, 8);
+}
+
+/* A block with 6 for its filler, which no fetch takes, can be replaced. */
+static void replace_a_damaged_map(void)
+{
+    printf("A damaged map replaced\n");
+    make_one_map();
+    file[8] = 0x76;
+    printf("byte 8 is 118: ");
+    replace(53, 7, 3, one, 1, 1024, 1024, 17);
+    fetch(54, 7, 3, 1024, 1024, 8);
+}
+
+/* What open refuses; a slot that is not there, before all else; tables that differ and of another size, before too
+ * many words; too many words, before room; and room that is one byte short in the buffer or in the bench; then at
+ * exactly those limits; then a file without a slot. */
+static void refusals_to_replace(void)
+{
+    printf("Refusals to replace\n");
+    lend_buffer(61);
+    create(7, 1);
+    append_zero(32, 7, 3, 17);
+    replace_by_one(31, 7, 3, 17);
+    replace_by_one(62, 7, 3, 17);
+    replace_by_one(52, 7, 3, 17);
+    replace_by_one(53, 8, 3, 17);
+    file[17] = 8;
+    printf("byte 17 is 8: ");
+    replace_by_one(53, 7, 3, 17);
+    file[17] = 9;
+    replace_by_one(53, 7, 4, 17);
+    replace(53, 7, 2, many_words, COIL_MOST_WORDS + 1, 1, 2, 0);
+    replace(53, 7, 3, one, 1, 1, 2, 17);
+    replace(53, 7, 3, many_words, COIL_MOST_WORDS + 1, 4, 4, 0);
+    replace(53, 7, 3, many_words, COIL_MOST_WORDS + 1, 2, 2, 0);
+    file_len = 60;
+    replace_by_one(53, 7, 3, 17);
+    file_len = 61;
+    replace_by_one(53, 7, 3, 16);
+    replace_by_one(53, 7, 3, 17);
+    fetch(54, 7, 3, 2, 2, 8);
+    create(7, 1);
+    replace_by_one(32, 7, 3, 17);
+}
+
 int main(void)
 {
     /* Where a call ends the program, the line up to that call is still printed. */
@@ -463,5 +569,9 @@ int main(void)
     refusals_to_find();
     refusals_to_fetch();
     refusals_to_append();
+    replace_the_only_map();
+    replace_one_of_two_maps();
+    replace_a_damaged_map();
+    refusals_to_replace();
     return 0;
 }
