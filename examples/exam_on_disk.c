@@ -75,7 +75,7 @@ static const char *what_to_do(uint32_t number)
     case COIL_NO_SUCH_SLOT:
         return "no such slot: look up the slot number; where it was stored, the file is damaged: take the copy";
     case COIL_SLOT_NOT_ABOVE:
-        return "a slot is written once, and slots ascend: append above the last, or begin another file";
+        return "slots ascend: append above the last, or begin another file; a slot that is there can be replaced";
     case COIL_FILE_FULL:
         return "the file has its 1,024 maps: begin another file";
     default:

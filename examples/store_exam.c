@@ -1,4 +1,4 @@
-/* Keeps the coil sensitivity maps of one exam in one file and reads one back.
+/* Keeps the coil sensitivity maps of one exam in one file, reads one back and replaces it.
  *
  * The memory here is static and sized by the macros of coil.h. The file stays in memory: exam_on_disk.c, beside
  * this one, keeps it on disk.
@@ -10,6 +10,7 @@
 #include <string.h>
 
 #define MAPS 16u                    /* one slot a coil */
+#define MOVED_COIL 16u              /* a place where none of the coils is */
 #define SIDE 64u                    /* a map is SIDE x SIDE values */
 #define VALUES (SIDE * SIDE)
 #define T 10u                       /* tables of 2^10 words */
@@ -68,9 +69,22 @@ static size_t store_all_maps(void)
     return length;
 }
 
+/* Every bit of a slot is compared with the map of a coil. */
+static void must_hold_map_of(size_t length, uint32_t slot, unsigned coil)
+{
+    size_t count;
+    must_be(COIL_DONE, coil_fetch(file, sizeof file, length, EXAM, slot, fcm, COIL_TABLE_WORDS(T),
+                                  dfcm, COIL_TABLE_WORDS(T), fetched, VALUES, &count), "fetch");
+    make_map(coil);
+    if (count != VALUES || memcmp(fetched, words, sizeof words) != 0) {
+        printf("slot %u came back different\n", (unsigned)slot);
+        exit(1);
+    }
+}
+
 static void read_back(size_t length, uint32_t slot)
 {
-    size_t offset, block_length, count;
+    size_t offset, block_length;
     must_be(COIL_WRONG_EXAM, coil_open(file, sizeof file, length, EXAM + 1), "open as another exam");
     printf("opened as another exam: refused with %u\n", (unsigned)COIL_WRONG_EXAM);
     must_be(COIL_DONE, coil_open(file, sizeof file, length, EXAM), "open");
@@ -78,19 +92,28 @@ static void read_back(size_t length, uint32_t slot)
     must_be(COIL_DONE, coil_find(file, sizeof file, length, EXAM, slot, &offset, &block_length), "find");
     printf("slot %u is the %zu bytes from byte %zu\n", (unsigned)slot, block_length, offset);
     must_be(COIL_DONE, coil_check(file + offset, block_length), "check");
-    must_be(COIL_DONE, coil_fetch(file, sizeof file, length, EXAM, slot, fcm, COIL_TABLE_WORDS(T),
-                                  dfcm, COIL_TABLE_WORDS(T), fetched, VALUES, &count), "fetch");
-    make_map(slot);
-    if (count != VALUES || memcmp(fetched, words, sizeof words) != 0) {
-        printf("slot %u came back different\n", (unsigned)slot);
-        exit(1);
-    }
-    printf("fetched %zu values of slot %u, every bit as it was\n", count, (unsigned)slot);
+    must_hold_map_of(length, slot, slot);
+    printf("fetched %u values of slot %u, every bit as it was\n", VALUES, (unsigned)slot);
+}
+
+/* One coil was moved and calibrated again. COIL_FILE_ROOM is room enough to replace any map by any other. */
+static void replace_map(size_t length, uint32_t slot)
+{
+    size_t new_length;
+    make_map(MOVED_COIL);
+    must_be(COIL_DONE, coil_replace(file, sizeof file, length, EXAM, slot, words, VALUES,
+                                    fcm, COIL_TABLE_WORDS(T), dfcm, COIL_TABLE_WORDS(T),
+                                    bench, sizeof bench, &new_length), "replace");
+    printf("replaced slot %u: the file had %zu bytes and has %zu\n", (unsigned)slot, length, new_length);
+    for (uint32_t each = 0; each < MAPS; each++)
+        must_hold_map_of(new_length, each, each == slot ? MOVED_COIL : each);
+    printf("slot %u gives the new map, every other slot its own, every bit as it was\n", (unsigned)slot);
 }
 
 int main(void)
 {
     size_t length = store_all_maps();
     read_back(length, 11);
+    replace_map(length, 11);
     return 0;
 }
