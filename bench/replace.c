@@ -15,7 +15,7 @@
 #define MAPS 30u
 #define T 10u
 #define EXAM 77u
-#define ROUNDS 60
+#define ROUNDS 200
 
 static uint8_t file[COIL_MOST_FILE_BYTES], twin[COIL_MOST_FILE_BYTES], bench[COIL_WORST(MOST_WORDS)];
 static uint64_t fcm[COIL_TABLE_WORDS(T)], dfcm[COIL_TABLE_WORDS(T)];

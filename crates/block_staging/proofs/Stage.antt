@@ -4,7 +4,7 @@ use mathlib.Core.List.{List, _∷_, _++_, append-nil, append-assoc}
 use Prim.Native.Nat.{ℕ, zero, suc, _+_, _*_, _/_, _%_, _^_, _≤_, _<_}
 use native.Mathlib.Omega.{arith}
 use native.Mathlib.Nat.{add-zero}
-use lib.ListN.{length, take, drop, length-append, getD}
+use lib.ListN.{length, set, take, drop, length-append, getD}
 use lib.Seq.{sets, sets-eq, take-append-add, take-append-le, length-take-le}
 use borrow.Author.Tests.{lt-ltb, le-ltb}
 use Rattle.words.specs.Words.{zeroBytes, add64, xor}
@@ -24,7 +24,32 @@ use Rattle.block_staging.specs.declared.Step.{Step}
 
 -- ---- eight bytes
 
--- the first k of n low bytes are the k low bytes
+pub eight-stored : (l : List ℕ) (at x : ℕ)
+    → set
+    (set
+    (set
+    (set (set (set (set (set l at (x % 256)) (at + 1) (x / 256 % 256)) (at + 2) (x / 65536 % 256)) (at + 3) (x / 16777216 % 256)) (at + 4) (x / 4294967296 % 256))
+    (at + 5) (x / 1099511627776 % 256))
+    (at + 6) (x / 281474976710656 % 256))
+    (at + 7) (x / 72057594037927936 % 256)
+    ≡ sets l at (lowBytes 8 x)
+eight-stored l at x =
+    let a1 : at + 1 ≡ suc at = omega arith in
+    let a2 : at + 2 ≡ suc (suc at) = omega arith in
+    let a3 : at + 3 ≡ suc (suc (suc at)) = omega arith in
+    let a4 : at + 4 ≡ suc (suc (suc (suc at))) = omega arith in
+    let a5 : at + 5 ≡ suc (suc (suc (suc (suc at)))) = omega arith in
+    let a6 : at + 6 ≡ suc (suc (suc (suc (suc (suc at))))) = omega arith in
+    let a7 : at + 7 ≡ suc (suc (suc (suc (suc (suc (suc at)))))) = omega arith in
+    let d2 : x / 65536 ≡ x / 256 / 256 = omega arith in
+    let d3 : x / 16777216 ≡ x / 256 / 256 / 256 = omega arith in
+    let d4 : x / 4294967296 ≡ x / 256 / 256 / 256 / 256 = omega arith in
+    let d5 : x / 1099511627776 ≡ x / 256 / 256 / 256 / 256 / 256 = omega arith in
+    let d6 : x / 281474976710656 ≡ x / 256 / 256 / 256 / 256 / 256 / 256 = omega arith in
+    let d7 : x / 72057594037927936 ≡ x / 256 / 256 / 256 / 256 / 256 / 256 / 256 = omega arith in
+    rw (a1, a2, a3, a4, a5, a6, a7, d2, d3, d4, d5, d6, d7)
+
+-- the first of them are the low bytes
 low-first : (k n x : ℕ) → k ≤ n → take k (lowBytes n x) ≡ lowBytes k x
 low-first zero n x h = refl
 low-first (suc k) zero x h = absurd (omega arith)

@@ -1,9 +1,10 @@
 // Staging: the residual bytes of one word or two go into a small buffer, by one store each, and from
 // there to the output.
 ghost use mathlib.Core.Path.{_≡_};
-ghost use Prim.Native.Nat.{_+_};
+ghost use Prim.Native.Nat.{_+_, _≤_};
 ghost use lib.ListN.{length, take};
 ghost use lib.Seq.{sets};
+ghost use Rattle.words.specs.Bytes.{lowBytes};
 ghost use Rattle.block_rules.specs.Codes.{dfcmChosen, chosen};
 ghost use Rattle.block_rules.specs.Numbers.{tOf};
 ghost use Rattle.block_rules.specs.Inside.{memory, Ready};
@@ -36,6 +37,22 @@ pub struct Pending {
     pub staged: usize,
 }
 
+// Stores all eight bytes of a residual in the stage, low byte first. Straight-line stores become a
+// single one.
+fn store_eight(stage: &mut [u8], at: usize, residual: u64)
+    requires { ⌜ at + 8 ≤ length (now stage) ⌝ }
+    ensures { λ _. ⌜ now (stage .exit) ≡ sets (now (stage .entry)) at (lowBytes 8 residual) ⌝ }
+{
+    stage[at] = (residual % 256) as u8;
+    stage[at + 1] = (residual / 256 % 256) as u8;
+    stage[at + 2] = (residual / 65536 % 256) as u8;
+    stage[at + 3] = (residual / 16777216 % 256) as u8;
+    stage[at + 4] = (residual / 4294967296 % 256) as u8;
+    stage[at + 5] = (residual / 1099511627776 % 256) as u8;
+    stage[at + 6] = (residual / 281474976710656 % 256) as u8;
+    stage[at + 7] = (residual / 72057594037927936 % 256) as u8;
+}
+
 // Stages the residual bytes of the chosen residual behind those that are there. A residual of 0 has no
 // byte, and most words of a map are predicted, so it leaves early.
 fn stage_chosen(stage: &mut [u8], staged: usize, by_fcm: u64, by_dfcm: u64) -> Staging
@@ -50,7 +67,7 @@ fn stage_chosen(stage: &mut [u8], staged: usize, by_fcm: u64, by_dfcm: u64) -> S
     }
     let coded = block_choice::chosen(by_fcm, by_dfcm);
     let code = coded.code;
-    words::store_eight(stage, staged, coded.residual);
+    store_eight(stage, staged, coded.residual);
     Staging {
         code,
         staged: staged + block_choice::written(code),

@@ -8,7 +8,7 @@ use lib.ListN.{length, getD, take}
 use lib.Seq.{length-take-le}
 use borrow.Author.Tests.{leb-true, ltb-true, eqb-true, eqb-false, le-leb, lt-ltb, eq-eqb}
 use Rattle.words.proofs.Tests.{either}
-use Rattle.words.proofs.Copies.{same-equal, equal-same}
+use Rattle.words.proofs.Moves.{same-equal, equal-same}
 use Rattle.answers.proofs.Checks.{unless-passes, unless-holds, none-fails, fails-later, last-decides, all-pass, passes, afterwards-new, afterwards-old}
 use Rattle.block_rules.specs.Block.{count, worst}
 use Rattle.block_rules.specs.Numbers.{blockNumber}

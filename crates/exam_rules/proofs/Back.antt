@@ -10,7 +10,7 @@ use lib.Seq.{take-at, drop-at, drop-append-add}
 use Rattle.words.specs.Bytes.{number, field}
 use Rattle.words.proofs.Each.{Each, more}
 use Rattle.words.proofs.Bytes.{number-low}
-use Rattle.words.proofs.Copies.{equal-same}
+use Rattle.words.proofs.Moves.{equal-same}
 use Rattle.exam_rules.specs.File.{Entry, entryBytes, directoryBytes, mark, trailerBytes, File, fileLength, fileBytes}
 use Rattle.exam_rules.specs.Reading.{trailerAt, markIn, editionIn, tIn, examIn, distanceIn, entriesIn, lengthIn, directoryAt, entryAt, entriesAt, fileIn}
 use Rattle.exam_rules.specs.Numbers.{mostBytes, editionKnown, directoryNumber, openInNumber}

@@ -9,7 +9,7 @@ use lib.ListN.{length, getD, take, drop, length-append, length-drop, take-append
 use lib.Seq.{drop-drop, drop-append-seam, length-take-le, take-append-le}
 use Rattle.words.specs.Bytes.{number, field}
 use Rattle.words.proofs.Each.{more}
-use Rattle.words.proofs.Copies.{same-equal}
+use Rattle.words.proofs.Moves.{same-equal}
 use Rattle.answers.proofs.Checks.{unless-holds}
 use Rattle.block_rules.specs.Block.{count, statedLength}
 use Rattle.block_rules.specs.Numbers.{blockNumber}

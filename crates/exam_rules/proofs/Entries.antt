@@ -1,18 +1,40 @@
 -- The bytes of entries that were read are those that they were read from.
 use mathlib.Core.Path.{_≡_, refl, sym, ap, ap₂, _∙_}
 use mathlib.Core.List.{List, [], _∷_, _++_, map, append-assoc, append-nil}
-use Prim.Native.Nat.{ℕ, zero, suc, _+_, _-_, _*_, _≤_, _<_}
+use Prim.Native.Nat.{ℕ, zero, suc, _+_, _-_, _*_, _/_, _%_, _≤_, _<_}
 use native.Mathlib.Omega.{arith}
 use lib.Dec.{eqb}
-use lib.ListN.{length, take, drop}
+use lib.ListN.{length, take, drop, length-drop}
 use lib.Seq.{sets, take-add, drop-drop}
-use Rattle.words.specs.Bytes.{Bytes, lowBytes, field}
-use Rattle.words.proofs.Bytes.{field-back}
+use Rattle.words.specs.Bytes.{Bytes, lowBytes, number, field}
 use Rattle.words.proofs.Stores.{sets-append, sets-sets, put-again}
 use Rattle.words.proofs.Tests.{either}
 use Rattle.exam_rules.specs.File.{Entry, entry, entryBytes, directoryBytes, moved, resized}
 use Rattle.exam_rules.specs.Reading.{entryAt, entriesAt, indexOf}
 use Rattle.exam_rules.proofs.Parts.{part-of-first}
+
+pub bytes-take : (n : ℕ) (l : List ℕ) → Bytes l → Bytes (take n l)
+bytes-take zero l h i = omega arith
+bytes-take (suc n) [] h i = omega arith
+bytes-take (suc n) (x ∷ l) h zero = h 0
+bytes-take (suc n) (x ∷ l) h (suc i) = bytes-take n l (λ k. h (suc k)) i
+
+pub bytes-drop : (n : ℕ) (l : List ℕ) → Bytes l → Bytes (drop n l)
+bytes-drop zero l h i = h i
+bytes-drop (suc n) [] h i = omega arith
+bytes-drop (suc n) (x ∷ l) h i = bytes-drop n l (λ k. h (suc k)) i
+
+bytes-back : (k : ℕ) (l : List ℕ) → Bytes l → k ≤ length l → lowBytes k (number (take k l)) ≡ take k l
+bytes-back zero l h n = refl
+bytes-back (suc k) [] h n = absurd (omega arith)
+bytes-back (suc k) (x ∷ l) h n =
+    let b : x < 256 = h 0 in
+    let r : (x + 256 * number (take k l)) % 256 ≡ x = omega arith in
+    let q : (x + 256 * number (take k l)) / 256 ≡ number (take k l) = omega arith in
+    rw (r, q) (ap (λ (y : List ℕ). x ∷ y) (bytes-back k l (λ i. h (suc i)) (omega arith)))
+
+field-back : (f : List ℕ) (at : ℕ) → Bytes f → at + 4 ≤ length f → lowBytes 4 (field 4 at f) ≡ take 4 (drop at f)
+field-back f at h n = bytes-back 4 (drop at f) (bytes-drop at f h) (simp length-drop (omega arith))
 
 entry-back : (f : List ℕ) (at : ℕ) → Bytes f → at + 12 ≤ length f → entryBytes (entryAt f at) ≡ take 12 (drop at f)
 unfolding entryBytes entryAt
@@ -20,7 +42,7 @@ entry-back f at h n =
     let x = take 4 (drop at f) in
     let a : take 8 (drop at f) ≡ x ++ take 4 (drop (at + 4) f) = take-add 4 4 (drop at f) ∙ ap (λ (y : List ℕ). x ++ take 4 y) (drop-drop 4 at f) in
     let b : take 12 (drop at f) ≡ take 8 (drop at f) ++ take 4 (drop (at + 8) f) = take-add 8 4 (drop at f) ∙ ap (λ (y : List ℕ). take 8 (drop at f) ++ take 4 y) (drop-drop 8 at f) in
-    ap₂ (λ (x y : List ℕ). x ++ y) (ap₂ (λ (x y : List ℕ). x ++ y) (field-back 4 at f h (omega arith)) (field-back 4 (at + 4) f h (omega arith))) (field-back 4 (at + 8) f h (omega arith))
+    ap₂ (λ (x y : List ℕ). x ++ y) (ap₂ (λ (x y : List ℕ). x ++ y) (field-back f at h (omega arith)) (field-back f (at + 4) h (omega arith))) (field-back f (at + 8) h (omega arith))
     ∙ sym (b ∙ ap (λ (y : List ℕ). y ++ take 4 (drop (at + 8) f)) a)
 
 -- the directory's bytes are those that its entries were read from
@@ -62,7 +84,7 @@ entries-in-first f (suc n) at l h = ap₂ (λ (e : Entry) (es : List Entry). e �
 module _ (b : List ℕ) (bytes : Bytes b) where
   -- a field that is put again changes nothing
   field-again : (at : ℕ) → at + 4 ≤ length b → sets b at (lowBytes 4 (field 4 at b)) ≡ b
-  field-again at h = ap (λ (x : List ℕ). sets b at x) (field-back 4 at b bytes h) ∙ put-again b at 4 h
+  field-again at h = ap (λ (x : List ℕ). sets b at x) (field-back b at bytes h) ∙ put-again b at 4 h
 
   module _ (at : ℕ) (room : at + 12 ≤ length b) where
     abbrev its : Entry

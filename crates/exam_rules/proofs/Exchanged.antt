@@ -6,7 +6,6 @@ use native.Mathlib.Omega.{arith}
 use lib.ListN.{length, getD, replicate, take, drop, length-append, length-replicate, getD-replicate, List·getD-append}
 use lib.Seq.{getD-drop, getD-append-add}
 use Rattle.words.specs.Bytes.{Bytes}
-use Rattle.words.proofs.Bytes.{bytes-take}
 use Rattle.answers.specs.Answers.{over}
 use Rattle.answers.proofs.Checks.{afterwards-new}
 use Rattle.block_rules.specs.Block.{block}
@@ -18,6 +17,7 @@ use Rattle.exam_rules.specs.declared.Made.{Made}
 use Rattle.exam_rules.proofs.Opens.{OpensIn, opens-in, parts-long}
 use Rattle.exam_rules.proofs.Lengths.{length-file}
 use Rattle.exam_rules.proofs.Changes.{changes-number}
+use Rattle.exam_rules.proofs.Entries.{bytes-take}
 use Rattle.exam_rules.proofs.Accept.{find-tells, replace-tells}
 use Rattle.exam_rules.proofs.Resized.{length-resized, length-replaced, index-replaced, own-entry, own-block, other-size, other-block, offset-before, offset-behind}
 use Rattle.exam_rules.proofs.Holds.{Holds, holds-length, holds-parts, holds-opens, replaced-holds}

@@ -32,6 +32,7 @@ use Rattle.exam_rules.proofs.Pieces.{length-pieces, created-pieces, appended-pi
 use Rattle.exam_rules.proofs.Maps.{Fit, map-reads, maps-whole, maps-piece, changed-at, changed-maps, changed-fit}
 use Rattle.exam_rules.proofs.Cut.{never-all-whole}
 use Rattle.exam_rules.proofs.Kept.{found-long, found-size, found-within, found-part, more-holds, more-opens, slot-kept, slot-new}
+use Rattle.exam_rules.proofs.Resized.{length-resized}
 use Rattle.exam_rules.proofs.Exchanged.{exchanged-holds, exchanged-opens, exchanged-length, same-slots, kept-beside, place-before, place-behind, slot-entry, slot-exchanged, freed-zero, beyond-stays}
 
 -- ---- no second answer
@@ -387,11 +388,20 @@ append-fetches {b} {l} {exam} {slot} {words} h w v c e q lf ld enough =
 -- ---- a replace exchanges one block and keeps all else
 
 -- An accepted replace in any file that opens makes a file that opens for the same exam number: the same parts, with the block of the words in the slot's
--- place. So edition and t are the same.
+-- place.
 pub replace-exchanges : {b : List ℕ} {l exam slot : ℕ} {words fcm dfcm bench b' fcm' dfcm' bench' : List ℕ} {r : Made} → Bytes b
     → Replaces b l exam slot words fcm dfcm bench r b' fcm' dfcm' bench' → r .number ≡ 0
     → (fileIn (take (r .length) b') ≡ replaced (fileIn (take l b)) (entryOf slot (fileIn (take l b))) (block (fileIn (take l b) .t) words)) × (openedNumber (opened b' (r .length) exam) ≡ 0)
 replace-exchanges {exam = exam} {b' = b'} {r = r} h c e = (holds-parts (exchanged-holds c e h), opened-number b' (r .length) exam ∙ exchanged-opens c e h)
+
+-- Edition, t and the number of entries are what they were.
+pub replace-keeps-trailer : {b : List ℕ} {l exam slot : ℕ} {words fcm dfcm bench b' fcm' dfcm' bench' : List ℕ} {r : Made} → Bytes b
+    → Replaces b l exam slot words fcm dfcm bench r b' fcm' dfcm' bench' → r .number ≡ 0
+    → (fileIn (take (r .length) b') .edition ≡ fileIn (take l b) .edition) × (fileIn (take (r .length) b') .t ≡ fileIn (take l b) .t)
+    × (length (fileIn (take (r .length) b') .entries) ≡ length (fileIn (take l b) .entries))
+replace-keeps-trailer {b} {l} {exam} {slot} {words} h c e =
+    let f = fileIn (take l b) in
+    rw (holds-parts (exchanged-holds c e h)) (refl, refl, length-resized (entryOf slot f .slot) (length (block (f .t) words)) (f .entries))
 
 -- Its length changes by the difference of the two blocks.
 pub replace-length : {b : List ℕ} {l exam slot : ℕ} {words fcm dfcm bench b' fcm' dfcm' bench' : List ℕ} {r : Made} → Bytes b

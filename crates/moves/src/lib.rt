@@ -1,5 +1,5 @@
-// Bytes moved inside a buffer, and bytes set to zero. A tool's `requires` is met by the crate that
-// calls it.
+// Bytes moved down inside a buffer, or either way, and bytes set to zero: what a file needs that gets
+// shorter. A tool's `requires` is met by the crate that calls it.
 ghost use mathlib.Core.Path.{_≡_};
 ghost use Prim.Native.Nat.{_+_, _-_, _≤_};
 ghost use lib.ListN.{length, replicate, take, drop};
@@ -17,41 +17,21 @@ pub fn wipe(buffer: &mut [u8], from: usize, to: usize)
     }
 }
 
-// Moves n bytes up inside a buffer, the last bytes first, so that no byte is lost where the two
-// places overlap. Eight bytes a turn, since these become one load and one store.
-pub fn move_up(buffer: &mut [u8], from: usize, to: usize, n: usize)
-    requires { ⌜ (from ≤ to) × (to + n ≤ length (now buffer)) ⌝ }
-    ensures { λ _. ⌜ now (buffer .exit) ≡ sets (now (buffer .entry)) to (take n (drop from (now (buffer .entry)))) ⌝ }
-{
-    let mut left = n;
-    while 8 <= left {
-        left -= 8;
-        let word = words::load_eight(&buffer[..], from + left);
-        words::store_eight(buffer, to + left, word);
-    }
-    let word = words::get_bytes(&buffer[..], from, left);
-    words::put_bytes(buffer, to, left, word);
-}
-
-// Moves n bytes down inside a buffer, the first bytes first, for the same reasons.
-pub fn move_down(buffer: &mut [u8], from: usize, to: usize, n: usize)
+// Moves n bytes down inside a buffer, the first byte first, so that no byte is lost where the two
+// places overlap. The compiler sees that too, and moves many at a time.
+fn move_down(buffer: &mut [u8], from: usize, to: usize, n: usize)
     requires { ⌜ (to ≤ from) × (from + n ≤ length (now buffer)) ⌝ }
     ensures { λ _. ⌜ now (buffer .exit) ≡ sets (now (buffer .entry)) to (take n (drop from (now (buffer .entry)))) ⌝ }
 {
-    let mut i = 0;
-    while 8 <= n - i {
-        let word = words::load_eight(&buffer[..], from + i);
-        words::store_eight(buffer, to + i, word);
-        i += 8;
+    let mut j = 0;
+    while j < n {
+        buffer[to + j] = buffer[from + j];
+        j += 1;
     }
-    let left = n - i;
-    let word = words::get_bytes(&buffer[..], from + i, left);
-    words::put_bytes(buffer, to + i, left, word);
 }
 
-// Moves n bytes from one place of a buffer to another. There are two directions so that no byte is
-// lost where the places overlap: up from the front, or down from the end, would write over bytes that
-// are still to be moved. Where the places are the same, nothing is touched.
+// Moves n bytes from one place of a buffer to another. Where the places are the same, nothing is
+// touched.
 pub fn move_bytes(buffer: &mut [u8], from: usize, to: usize, n: usize)
     requires { ⌜ (from + n ≤ length (now buffer)) × (to + n ≤ length (now buffer)) ⌝ }
     ensures { λ _. ⌜ now (buffer .exit) ≡ sets (now (buffer .entry)) to (take n (drop from (now (buffer .entry)))) ⌝ }
@@ -59,6 +39,6 @@ pub fn move_bytes(buffer: &mut [u8], from: usize, to: usize, n: usize)
     if to < from {
         move_down(buffer, from, to, n);
     } else if from < to {
-        move_up(buffer, from, to, n);
+        words::move_up(buffer, from, to, n);
     }
 }

@@ -1,10 +1,10 @@
 -- Bytes low first, and the number that they make.
 use mathlib.Core.Path.{_≡_, refl, ap, _∙_}
 use mathlib.Core.List.{List, [], _∷_}
-use Prim.Native.Nat.{ℕ, zero, suc, _+_, _-_, _*_, _/_, _%_, _^_, _≤_, _<_}
+use Prim.Native.Nat.{ℕ, zero, suc, _+_, _-_, _*_, _/_, _^_, _≤_, _<_}
 use native.Mathlib.Omega.{arith}
 use native.Mathlib.Nat.{zero-add, suc-add, mul-zero, mul-assoc, mul-comm, pow-suc, pow-succ', div-eq-of-lt, div-lt-iff-lt-mul, add-mul-div-left}
-use lib.ListN.{length, getD, take, drop, length-drop}
+use lib.ListN.{length, getD, take, drop}
 use lib.Seq.{take-nil, drop-cons, drop-drop, getD-drop}
 use Rattle.words.specs.Bytes.{Bytes, lowBytes, number, field}
 use Rattle.words.proofs.Zeros.{pow-256, pow-256-le}
@@ -25,28 +25,6 @@ pub number-below : (k : ℕ) (bs : List ℕ) → Bytes bs → number (take k bs)
 number-below zero bs h = omega arith
 number-below (suc k) [] h = omega (arith, number-below k [] h, pow-suc 256 k)
 number-below (suc k) (b ∷ bs) h = rw pow-suc (omega (arith, number-below k bs (λ i. h (suc i)), h 0))
-
-pub bytes-take : (n : ℕ) (l : List ℕ) → Bytes l → Bytes (take n l)
-bytes-take zero l h i = omega arith
-bytes-take (suc n) [] h i = omega arith
-bytes-take (suc n) (x ∷ l) h zero = h 0
-bytes-take (suc n) (x ∷ l) h (suc i) = bytes-take n l (λ k. h (suc k)) i
-
-pub bytes-drop : (n : ℕ) (l : List ℕ) → Bytes l → Bytes (drop n l)
-bytes-drop n l h i = rw (getD-drop n l i 0) (h (n + i))
-
--- bytes read as a number and written back are the same bytes
-pub bytes-back : (k : ℕ) (l : List ℕ) → Bytes l → k ≤ length l → lowBytes k (number (take k l)) ≡ take k l
-bytes-back zero l h n = refl
-bytes-back (suc k) [] h n = absurd (omega arith)
-bytes-back (suc k) (x ∷ l) h n =
-    let b : x < 256 = h 0 in
-    let r : (x + 256 * number (take k l)) % 256 ≡ x = omega arith in
-    let q : (x + 256 * number (take k l)) / 256 ≡ number (take k l) = omega arith in
-    rw (r, q) (ap (λ (y : List ℕ). x ∷ y) (bytes-back k l (λ i. h (suc i)) (omega arith)))
-
-pub field-back : (k at : ℕ) (bs : List ℕ) → Bytes bs → at + k ≤ length bs → lowBytes k (field k at bs) ≡ take k (drop at bs)
-field-back k at bs h n = bytes-back k (drop at bs) (bytes-drop at bs h) (simp length-drop (omega arith))
 
 -- ---- a field in two parts
 
@@ -104,7 +82,7 @@ reading-all bs at k j x h g =
 
 -- a field of k bytes is below 256 ^ k
 pub field-below : (k at : ℕ) (bs : List ℕ) → Bytes bs → field k at bs < 256 ^ k
-field-below k at bs h = number-below k (drop at bs) (bytes-drop at bs h)
+field-below k at bs h = number-below k (drop at bs) (λ i. rw (getD-drop at bs i 0) (h (at + i)))
 
 -- of j + k bytes with the first j shifted out, the last k are left
 field-last : (j k at : ℕ) (bs : List ℕ) → Bytes bs → field (j + k) at bs / 2 ^ (8 * j) ≡ field k (at + j) bs

@@ -15,7 +15,7 @@ sets-append l i (v ∷ vs) ws =
     rw e (sets-append (set l i v) (suc i) vs ws)
 
 -- a store below a run of stores
-set-sets : (l : List ℕ) (i a j : ℕ) (vs : List ℕ) → i < j → set (sets l j vs) i a ≡ sets (set l i a) j vs
+pub set-sets : (l : List ℕ) (i a j : ℕ) (vs : List ℕ) → i < j → set (sets l j vs) i a ≡ sets (set l i a) j vs
 set-sets l i a j [] h = refl
 set-sets l i a j (v ∷ vs) h =
     set-sets (set l j v) i a (suc j) vs (omega arith) ∙ ap (λ (x : List ℕ). sets x (suc j) vs) (set-comm l j i v a (λ e. omega arith))
@@ -54,33 +54,6 @@ pub put-all : (out : List ℕ) (at j k x : ℕ) (whole : List ℕ) → k ≤ j �
 put-all out at j k x whole h p =
     let e : k - j ≡ 0 = omega arith in
     rw e at p
-
--- ---- eight bytes in a row
-
-pub eight-stored : (l : List ℕ) (at x : ℕ)
-    → set
-    (set
-    (set
-    (set (set (set (set (set l at (x % 256)) (at + 1) (x / 256 % 256)) (at + 2) (x / 65536 % 256)) (at + 3) (x / 16777216 % 256)) (at + 4) (x / 4294967296 % 256))
-    (at + 5) (x / 1099511627776 % 256))
-    (at + 6) (x / 281474976710656 % 256))
-    (at + 7) (x / 72057594037927936 % 256)
-    ≡ sets l at (lowBytes 8 x)
-eight-stored l at x =
-    let a1 : at + 1 ≡ suc at = omega arith in
-    let a2 : at + 2 ≡ suc (suc at) = omega arith in
-    let a3 : at + 3 ≡ suc (suc (suc at)) = omega arith in
-    let a4 : at + 4 ≡ suc (suc (suc (suc at))) = omega arith in
-    let a5 : at + 5 ≡ suc (suc (suc (suc (suc at)))) = omega arith in
-    let a6 : at + 6 ≡ suc (suc (suc (suc (suc (suc at))))) = omega arith in
-    let a7 : at + 7 ≡ suc (suc (suc (suc (suc (suc (suc at)))))) = omega arith in
-    let d2 : x / 65536 ≡ x / 256 / 256 = omega arith in
-    let d3 : x / 16777216 ≡ x / 256 / 256 / 256 = omega arith in
-    let d4 : x / 4294967296 ≡ x / 256 / 256 / 256 / 256 = omega arith in
-    let d5 : x / 1099511627776 ≡ x / 256 / 256 / 256 / 256 / 256 = omega arith in
-    let d6 : x / 281474976710656 ≡ x / 256 / 256 / 256 / 256 / 256 / 256 = omega arith in
-    let d7 : x / 72057594037927936 ≡ x / 256 / 256 / 256 / 256 / 256 / 256 / 256 = omega arith in
-    rw (a1, a2, a3, a4, a5, a6, a7, d2, d3, d4, d5, d6, d7)
 
 -- ---- setting a run of elements to zero, one a turn
 

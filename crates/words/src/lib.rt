@@ -2,7 +2,7 @@
 // that calls it; the calls of the store itself, in `blocks` and `exams`, have none.
 ghost use mathlib.Core.Path.{_≡_};
 ghost use Prim.Native.Nat.{_+_, _≤_, _<_};
-ghost use lib.ListN.{length, replicate};
+ghost use lib.ListN.{length, replicate, take, drop};
 ghost use lib.Seq.{sets};
 ghost use Rattle.words.specs.Words.{sub64, zeroBytes};
 ghost use Rattle.words.specs.Bytes.{lowBytes, field, sameBytes};
@@ -46,21 +46,6 @@ pub fn put_bytes(out: &mut [u8], at: usize, k: usize, x: u64)
     }
 }
 
-// Writes all eight bytes of x at a place, low byte first. Straight-line stores become a single one.
-pub fn store_eight(out: &mut [u8], at: usize, x: u64)
-    requires { ⌜ at + 8 ≤ length (now out) ⌝ }
-    ensures { λ _. ⌜ now (out .exit) ≡ sets (now (out .entry)) at (lowBytes 8 x) ⌝ }
-{
-    out[at] = (x % 256) as u8;
-    out[at + 1] = (x / 256 % 256) as u8;
-    out[at + 2] = (x / 65536 % 256) as u8;
-    out[at + 3] = (x / 16777216 % 256) as u8;
-    out[at + 4] = (x / 4294967296 % 256) as u8;
-    out[at + 5] = (x / 1099511627776 % 256) as u8;
-    out[at + 6] = (x / 281474976710656 % 256) as u8;
-    out[at + 7] = (x / 72057594037927936 % 256) as u8;
-}
-
 // A byte as a word. (A cast of an element would ask its bound again at each use.)
 fn wide(b: u8) -> u64
     ensures { λ r. ⌜ (r ≡ b) × (r < 256) ⌝ }
@@ -99,7 +84,7 @@ fn load_four(src: &[u8], at: usize) -> u64
 }
 
 // Reads eight bytes.
-pub fn load_eight(src: &[u8], at: usize) -> u64
+fn load_eight(src: &[u8], at: usize) -> u64
     requires { ⌜ at + 8 ≤ length (now src) ⌝ }
     ensures { λ r. ⌜ r ≡ field 8 at (now (src .entry)) ⌝ }
 {
@@ -142,5 +127,18 @@ pub fn copy_in(out: &mut [u8], at: usize, src: &[u8])
     while j < src.len() {
         out[at + j] = src[j];
         j += 1;
+    }
+}
+
+// Moves n bytes up inside a buffer, the last byte first, so that no byte is lost where the two
+// places overlap.
+pub fn move_up(buffer: &mut [u8], from: usize, to: usize, n: usize)
+    requires { ⌜ (from ≤ to) × (to + n ≤ length (now buffer)) ⌝ }
+    ensures { λ _. ⌜ now (buffer .exit) ≡ sets (now (buffer .entry)) to (take n (drop from (now (buffer .entry)))) ⌝ }
+{
+    let mut j = n;
+    while 0 < j {
+        j -= 1;
+        buffer[to + j] = buffer[from + j];
     }
 }

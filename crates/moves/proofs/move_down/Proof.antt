@@ -1,75 +1,57 @@
-use Prim.Native.Nat.{_-_, _≤_}
+use Prim.Native.Nat.{_-_}
 use native.Mathlib.Omega.{arith}
 use borrow.Author.Needs.{needs}
-use Rattle.moves.proofs.Moves.{Moved, moved-none, moved-down}
+use Rattle.moves.proofs.Moves.{Moving, move-starts, move-on, move-ends}
 use Rattle.moves.proofs.move_down.Statement.{statement}
 use Rattle.moves.proofs.move_down.Tie as tie
 
 abbrev Inv-loop : tie.InvT-loop
-Inv-loop buffer₀ from to n i₀ buffer i = (i ≤ n) × Moved buffer₀ from to i buffer
+Inv-loop buffer₀ from to n j₀ buffer j = Moving buffer₀ from to n buffer j
 
 abbrev μ-loop : tie.MeasureT-loop
-μ-loop buffer₀ from to n i₀ buffer i = n - i
+μ-loop buffer₀ from to n j₀ buffer j = n - j
 
 loop-holds : tie.Need-loop-holds Inv-loop μ-loop
-loop-holds c = (omega arith, moved-none _ _ _ _ (omega arith))
+loop-holds c = move-starts _ _ _ _
 
-sub-loop : tie.Need-sub-loop Inv-loop μ-loop
-sub-loop c = search needs
+add-buffer : tie.Need-add-buffer Inv-loop μ-loop
+add-buffer c = search needs
 
-add-load-eight : tie.Need-add-load-eight Inv-loop μ-loop
-add-load-eight c = search needs
+slice-read-buffer : tie.Need-slice-read-buffer Inv-loop μ-loop
+slice-read-buffer c =
+    let at-loop = c .before .before in
+    omega (arith, at-loop .loop .inv .long)
 
-load-eight-requires : tie.Need-load-eight-requires Inv-loop μ-loop
-load-eight-requires c κs = search needs
+add-buffer-2 : tie.Need-add-buffer-2 Inv-loop μ-loop
+add-buffer-2 c = search needs
 
-add-store-eight : tie.Need-add-store-eight Inv-loop μ-loop
-add-store-eight c = search needs
+slice-write-buffer : tie.Need-slice-write-buffer Inv-loop μ-loop
+slice-write-buffer c =
+    let at-loop = c .before .before in
+    omega (arith, at-loop .loop .inv .long)
 
-store-eight-requires : tie.Need-store-eight-requires Inv-loop μ-loop
-store-eight-requires c κs = search needs
-
-add-i : tie.Need-add-i Inv-loop μ-loop
-add-i c = search needs
+add-j : tie.Need-add-j Inv-loop μ-loop
+add-j c = search needs
 
 loop-less : tie.Need-loop-less Inv-loop μ-loop
 loop-less c = search needs
 
 loop-again : tie.Need-loop-again Inv-loop μ-loop
 loop-again c =
-    let at-store-eight = c .before .before in
-    let at-load-eight = at-store-eight .before .before in
-    let at-loop = at-load-eight .before .before .before in
-    let at-slice-known = at-loop .before in
-    let entry = at-slice-known .before in
-    (omega arith, moved-down _ _ _ _ _ _ 8 _ _ (entry .pre .0) (omega arith) (omega arith) (λ i. at-slice-known .slice-known .given i .fits) (at-loop .loop .inv .1) (at-load-eight .load-eight .ensures) (at-store-eight .store-eight .ensures))
-
-sub-left : tie.Need-sub-left Inv-loop μ-loop
-sub-left c = search needs
-
-add-get-bytes : tie.Need-add-get-bytes Inv-loop μ-loop
-add-get-bytes c = search needs
-
-get-bytes-requires : tie.Need-get-bytes-requires Inv-loop μ-loop
-get-bytes-requires c κs = search needs
-
-add-put-bytes : tie.Need-add-put-bytes Inv-loop μ-loop
-add-put-bytes c = search needs
-
-put-bytes-requires : tie.Need-put-bytes-requires Inv-loop μ-loop
-put-bytes-requires c κs = search needs
+    let at-loop-test = c .before in
+    let at-loop = at-loop-test .before in
+    let entry = at-loop .before in
+    move-on _ _ _ _ _ _ (entry .pre .0) (entry .pre .1) (at-loop-test .loop-test .taken) (at-loop .loop .inv)
 
 same-length : tie.Need-same-length Inv-loop μ-loop
-same-length c = search needs
+same-length c =
+    let at-loop = c .before in
+    at-loop .loop .inv .long
 
 returns : tie.Need-returns Inv-loop μ-loop
 returns c =
-    let at-put-bytes = c .before .before in
-    let at-get-bytes = at-put-bytes .before .before in
-    let at-loop = at-get-bytes .before .before .before in
-    let at-slice-known = at-loop .before in
-    let entry = at-slice-known .before in
-    moved-down _ _ _ _ _ _ (entry .args .n - at-loop .loop .i) (entry .args .n) _ (entry .pre .0) (entry .pre .1) (omega arith) (λ i. at-slice-known .slice-known .given i .fits) (at-loop .loop .inv .1) (at-get-bytes .get-bytes .ensures) (at-put-bytes .put-bytes .ensures) .is
+    let at-loop = c .before in
+    move-ends _ _ _ _ _ _ (c .loop-test .left) (at-loop .loop .inv)
 
 pub move-down-spec : {M : Type 1} → statement M
 move-down-spec =
@@ -78,18 +60,12 @@ move-down-spec =
     Inv-loop
     μ-loop
     loop-holds
-    sub-loop
-    add-load-eight
-    load-eight-requires
-    add-store-eight
-    store-eight-requires
-    add-i
+    add-buffer
+    slice-read-buffer
+    add-buffer-2
+    slice-write-buffer
+    add-j
     loop-less
     loop-again
-    sub-left
-    add-get-bytes
-    get-bytes-requires
-    add-put-bytes
-    put-bytes-requires
     same-length
     returns)

@@ -2,7 +2,7 @@ use Prim.Native.Nat.{_-_}
 use native.Mathlib.Omega.{arith}
 use lib.ListN.{length}
 use borrow.Author.Needs.{needs}
-use Rattle.words.proofs.Copies.{Copying, copy-starts, copy-on, copy-ends}
+use Rattle.words.proofs.Moves.{Copying, copy-starts, copy-on, copy-ends}
 use Rattle.words.proofs.copy_in.Statement.{statement}
 use Rattle.words.proofs.copy_in.Tie as tie
 

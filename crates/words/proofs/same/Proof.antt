@@ -2,7 +2,7 @@ use Prim.Native.Nat.{_-_}
 use native.Mathlib.Omega.{arith}
 use lib.ListN.{length}
 use borrow.Author.Needs.{needs}
-use Rattle.words.proofs.Copies.{Comparing, compare-unequal, compare-starts, compare-differs, compare-on, compare-ends}
+use Rattle.words.proofs.Moves.{Comparing, compare-unequal, compare-starts, compare-differs, compare-on, compare-ends}
 use Rattle.words.proofs.same.Statement.{statement}
 use Rattle.words.proofs.same.Tie as tie
 
