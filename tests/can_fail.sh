@@ -32,17 +32,18 @@ done
 objects=("${parts[@]/#/$build/}")
 objects=("${objects[@]/%/.o}")
 
-# Builds one stand-in library from a source and compares it. 0: compare passed, 1: failed, 2: not built.
+# Builds one stand-in library from a source and compares it, beginning with a group of comparisons. 0: compare passed,
+# 1: failed, 2: not built.
 try() {
-    local name=$1 source=$2
+    local name=$1 source=$2 begin=$3
     "$compiler" "${flags[@]}" -w -DREFERENCE_SOURCE="\"$source\"" -c "$tests/as_coil.c" -o "$build/$name.o" &&
         "$compiler" "${flags[@]}" "${objects[@]}" "$build/$name.o" -o "$build/$name" || return 2
-    "${runner[@]}" "$build/$name" 1 1 first >"$build/$name.log" 2>&1 && return 0
+    "${runner[@]}" "$build/$name" 1 1 first "$begin" >"$build/$name.log" 2>&1 && return 0
     grep -q FAILED "$build/$name.log" && return 1
     return 2
 }
 
-if ! try without_slip "$tests/reference.c"; then
+if ! try without_slip "$tests/reference.c" blocks; then
     echo "FAILED can_fail: the reference without a slip does not pass"
     exit 1
 fi
@@ -50,9 +51,19 @@ fi
 right=$(<"$tests/reference.c")
 slips=0
 
+# The group in which a slip is likely to be seen soonest. Where it is not seen there, all the others follow.
+group_of() {
+    case $1 in
+        create:* | append:* | find:* | fetch:*) echo files ;;
+        open:*) echo damage ;;
+        replace:*) echo replace ;;
+        *) echo blocks ;;
+    esac
+}
+
 try_slip() {
     local number=$1 title=$2 result
-    try "slip$number" "$build/slip$number.c"
+    try "slip$number" "$build/slip$number.c" "$(group_of "$title")"
     case $? in
         1) result=seen ;;
         0) result="NOT SEEN" ;;

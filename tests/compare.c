@@ -1,9 +1,10 @@
 /* Compares every call of coil.h with the reference.
  *
- *     compare [ROUNDS [SEED [first]]]
+ *     compare [ROUNDS [SEED [first [GROUP]]]]
  *
  * More rounds try more random inputs. The seed fixes them all. With "first" it stops at the first
- * failure, otherwise after twenty.
+ * failure, otherwise after twenty. All groups are run; with the name of a group it begins with that one,
+ * so that a failure that is expected there comes soon.
  */
 #define _DEFAULT_SOURCE
 #include "calls.h"
@@ -53,6 +54,26 @@ static unsigned long number_from(const char *text, unsigned long otherwise)
     return number;
 }
 
+#define GROUPS (sizeof groups / sizeof groups[0])
+
+/* Where it begins; with the first group where the name is that of none. */
+static size_t group_named(const char *name)
+{
+    size_t index = 0;
+    while (index < GROUPS && strcmp(groups[index].name, name) != 0) {
+        index++;
+    }
+    return index % GROUPS;
+}
+
+static void run_group(const group *g, unsigned rounds)
+{
+    unsigned long before = comparisons();
+    g->run(rounds);
+    printf("  %-7s %8lu comparisons  %s\n", g->name, comparisons() - before, g->about);
+    fflush(stdout);
+}
+
 int main(int count, char **arguments)
 {
     unsigned long rounds = number_from(count > 1 ? arguments[1] : NULL, 4);
@@ -64,11 +85,9 @@ int main(int count, char **arguments)
     signal(SIGABRT, stopped_by_signal);
     prepare_calls(seed, count > 3 && strcmp(arguments[3], "first") == 0);
     printf("compare: rounds %lu, seed %lu\n", rounds, seed);
-    for (size_t i = 0; i < sizeof groups / sizeof groups[0]; i++) {
-        unsigned long before = comparisons();
-        groups[i].run((unsigned)rounds);
-        printf("  %-7s %8lu comparisons  %s\n", groups[i].name, comparisons() - before, groups[i].about);
-        fflush(stdout);
+    size_t begin = group_named(count > 4 ? arguments[4] : "");
+    for (size_t i = 0; i < GROUPS; i++) {
+        run_group(&groups[(begin + i) % GROUPS], (unsigned)rounds);
     }
     printf("%lu passed, %lu failed\n", comparisons(), failures());
     return failures() != 0;
