@@ -313,29 +313,39 @@ outcome compare_fetch(lent_file file, uint32_t slot, table_sizes tables, size_t 
     return result;
 }
 
-outcome compare_append(lent_file file, uint32_t slot, const uint64_t *words, size_t count,
-                       table_sizes tables, size_t bench_len)
+/* A call that packs words into a file: append or replace. */
+typedef uint32_t store_call(uint8_t *, size_t, size_t, uint64_t, uint32_t, const uint64_t *, size_t,
+                            uint64_t *, size_t, uint64_t *, size_t, uint8_t *, size_t, size_t *);
+
+static outcome compare_store(const char *name, store_call *in_library, store_call *in_reference, lent_file file,
+                             uint32_t slot, const uint64_t *words, size_t count, table_sizes tables, size_t bench_len)
 {
     lend_file(file);
     lent_set(&the_words, words, 8 * count, 8 * count);
     lent_set(&the_block, NULL, 0, bench_len);
     lend_tables(tables);
     lend_numbers();
-    uint32_t library = coil_append(LIB(the_file), file.length, file.exam, slot, LIB_WORDS(the_words),
-                                   LIB_WORDS(the_fcm), LIB_WORDS(the_dfcm), LIB(the_block),
-                                   LIB_NUMBER(the_first));
-    uint32_t reference = ref_append(REF(the_file), file.length, file.exam, slot, REF_WORDS(the_words),
-                                    REF_WORDS(the_fcm), REF_WORDS(the_dfcm), REF(the_block),
-                                    REF_NUMBER(the_first));
+    uint32_t library = in_library(LIB(the_file), file.length, file.exam, slot, LIB_WORDS(the_words),
+                                  LIB_WORDS(the_fcm), LIB_WORDS(the_dfcm), LIB(the_block),
+                                  LIB_NUMBER(the_first));
+    uint32_t reference = in_reference(REF(the_file), file.length, file.exam, slot, REF_WORDS(the_words),
+                                      REF_WORDS(the_fcm), REF_WORDS(the_dfcm), REF(the_block),
+                                      REF_NUMBER(the_first));
     const loan loans[] = {
         { &the_file, WRITTEN }, { &the_words, ONLY_READ }, { &the_fcm, WRITTEN },
         { &the_dfcm, WRITTEN }, { &the_block, WRITTEN }, { &the_first, A_NUMBER }
     };
-    JUDGE("append", loans);
+    JUDGE(name, loans);
     outcome result = result_of(reference);
     result.first = number_of(&the_first);
     result.bytes = lent_reference(&the_file);
     return result;
+}
+
+outcome compare_append(lent_file file, uint32_t slot, const uint64_t *words, size_t count,
+                       table_sizes tables, size_t bench_len)
+{
+    return compare_store("append", coil_append, ref_append, file, slot, words, count, tables, bench_len);
 }
 
 /* Beside both sides being equal: what a shorter file leaves free is 0, and nothing beyond both ends changes. */
@@ -355,25 +365,7 @@ static void beyond_is_right(lent_file file, size_t new_length)
 outcome compare_replace(lent_file file, uint32_t slot, const uint64_t *words, size_t count,
                         table_sizes tables, size_t bench_len)
 {
-    lend_file(file);
-    lent_set(&the_words, words, 8 * count, 8 * count);
-    lent_set(&the_block, NULL, 0, bench_len);
-    lend_tables(tables);
-    lend_numbers();
-    uint32_t library = coil_replace(LIB(the_file), file.length, file.exam, slot, LIB_WORDS(the_words),
-                                    LIB_WORDS(the_fcm), LIB_WORDS(the_dfcm), LIB(the_block),
-                                    LIB_NUMBER(the_first));
-    uint32_t reference = ref_replace(REF(the_file), file.length, file.exam, slot, REF_WORDS(the_words),
-                                     REF_WORDS(the_fcm), REF_WORDS(the_dfcm), REF(the_block),
-                                     REF_NUMBER(the_first));
-    const loan loans[] = {
-        { &the_file, WRITTEN }, { &the_words, ONLY_READ }, { &the_fcm, WRITTEN },
-        { &the_dfcm, WRITTEN }, { &the_block, WRITTEN }, { &the_first, A_NUMBER }
-    };
-    JUDGE("replace", loans);
-    outcome result = result_of(reference);
-    result.first = number_of(&the_first);
-    result.bytes = lent_reference(&the_file);
+    outcome result = compare_store("replace", coil_replace, ref_replace, file, slot, words, count, tables, bench_len);
     if (result.answer == 0) {
         beyond_is_right(file, result.first);
     }
