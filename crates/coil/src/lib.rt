@@ -133,7 +133,7 @@ pub extern "C" fn coil_replace(
 ) -> u32
     ensures { λ r. ⌜ CoilReplaces (now (file .entry)) length exam slot (now (words .entry)) (now (fcm .entry)) (now (dfcm .entry)) (now (bench .entry)) r (now (file .exit)) (now (fcm .exit)) (now (dfcm .exit)) (now (bench .exit)) (now («new_length» .exit)) ⌝ }
 {
-    let answer = exams::replace(file, length, exam, slot, words, fcm, dfcm, bench);
-    *new_length = answer.length;
-    answer.number
+    let reply = exams::replace(file, length, exam, slot, words, fcm, dfcm, bench);
+    *new_length = reply.length;
+    reply.number
 }

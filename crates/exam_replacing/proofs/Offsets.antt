@@ -1,14 +1,14 @@
 -- Moving the offsets of entries, one a turn, and giving an entry another size.
 use mathlib.Core.Path.{_≡_, refl, sym, ap, _∙_}
-use mathlib.Core.List.{List, [], _∷_, _++_, map, map-append}
+use mathlib.Core.List.{List, _++_, map, map-append}
 use Prim.Native.Nat.{ℕ, _+_, _-_, _*_, _^_, _≤_, _<_}
 use native.Mathlib.Omega.{arith}
 use lib.ListN.{length, take, drop, length-map}
 use lib.Seq.{sets, length-sets}
 use Rattle.words.specs.Bytes.{Bytes, lowBytes, number, field}
 use Rattle.words.proofs.Bytes.{field-below}
-use Rattle.words.proofs.Stores.{sets-append, sets-sets, kept-above, join}
-use Rattle.exam_rules.specs.File.{Entry, entry, entryBytes, directoryBytes, moved}
+use Rattle.words.proofs.Stores.{sets-sets, kept-above, join}
+use Rattle.exam_rules.specs.File.{entry, entryBytes, moved}
 use Rattle.exam_rules.specs.Reading.{entryAt, entriesAt}
 use Rattle.exam_rules.proofs.Directory.{Place, place-starts, place-on, length-entries}
 use Rattle.exam_rules.proofs.Lengths.{length-entry, length-directory}

@@ -16,13 +16,13 @@ use Rattle.block_rules.proofs.Lengths.{block-at-most}
 use Rattle.block_rules.proofs.Round.{written-block}
 use Rattle.exam_rules.specs.File.{Entry, entry, File, fileLength, fileBytes, replaced}
 use Rattle.exam_rules.specs.Reading.{fileIn, indexOf, entryOf}
-use Rattle.exam_rules.specs.Numbers.{mostBytes, slotNumber, findNumber, storeNumber, replaceNumber}
+use Rattle.exam_rules.specs.Numbers.{slotNumber, findNumber, storeNumber, replaceNumber}
 use Rattle.exam_rules.specs.Calls.{opened, openedNumber, replacesNumber, Replaces}
 use Rattle.exam_rules.specs.Inside.{Standing}
 use Rattle.exam_rules.specs.declared.Trailer.{Trailer}
 use Rattle.exam_rules.specs.declared.Opened.{Opened}
 use Rattle.exam_rules.specs.declared.Opened.the-variants.{Done, Refused}
-use Rattle.exam_rules.proofs.Opens.{opens-in, refused-tells, done-tells, standing}
+use Rattle.exam_rules.proofs.Opens.{refused-tells, done-tells, standing}
 use Rattle.exam_rules.proofs.Parts.{no-default, tells-t, t-small}
 use Rattle.exam_rules.proofs.Changes.{change-refused, change-done}
 use Rattle.exam_rules.proofs.Accept.{Storable, storable, find-tells}

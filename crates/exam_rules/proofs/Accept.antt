@@ -249,7 +249,7 @@ storable t n f d kept buffer bench h z =
       small = omega arith;
     }
 
-pub store-passes : (t n f d kept buffer bench : ℕ) → f ≡ 2 ^ t → d ≡ f → n ≤ 65536 → kept + worst n ≤ buffer → kept + worst n ≤ mostBytes → worst n ≤ bench
+store-passes : (t n f d kept buffer bench : ℕ) → f ≡ 2 ^ t → d ≡ f → n ≤ 65536 → kept + worst n ≤ buffer → kept + worst n ≤ mostBytes → worst n ≤ bench
     → storeNumber t n f d kept buffer bench ≡ 0
 unfolding storeNumber
 store-passes t n f d kept buffer bench long same few room small enough =

@@ -42,7 +42,7 @@ good-more f slot b g s n h l z =
       directory = directory-more f slot b (g .directory) h l;
     }
 
-pub good-replaced : (f : File) (slot : ℕ) (b : List ℕ) → Good f → indexOf slot (f .entries) < length (f .entries) → 8 ≤ length b
+good-replaced : (f : File) (slot : ℕ) (b : List ℕ) → Good f → indexOf slot (f .entries) < length (f .entries) → 8 ≤ length b
     → fileLength (replaced f (entryOf slot f) b) ≤ mostBytes → Good (replaced f (entryOf slot f) b)
 good-replaced f slot b g h l z =
     record {

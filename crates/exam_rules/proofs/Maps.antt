@@ -13,8 +13,8 @@ use Rattle.words.proofs.Each.{Each, none, more, each-map}
 use Rattle.words.proofs.Tests.{either}
 use Rattle.block_rules.specs.Block.{block}
 use Rattle.block_rules.proofs.Round.{block-count, block-whole, block-words}
-use Rattle.exam_rules.specs.File.{Entry, entry, File, moved, resized, replaced}
-use Rattle.exam_rules.specs.Reading.{fileIn, indexOf, entryOf}
+use Rattle.exam_rules.specs.File.{Entry, entry, moved, resized, replaced}
+use Rattle.exam_rules.specs.Reading.{indexOf, entryOf}
 use Rattle.exam_rules.specs.Calls.{Replaces}
 use Rattle.exam_rules.specs.Pieces.{Piece, blocksOf, entriesOf}
 use Rattle.exam_rules.specs.Maps.{Map, pieceOf, fileOf, changed}

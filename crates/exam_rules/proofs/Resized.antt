@@ -1,12 +1,12 @@
 -- Entries of which one block got another size, and the file with another block there.
 use mathlib.Core.Path.{_≡_, refl, sym, ap, _∙_}
 use mathlib.Core.List.{List, [], _∷_, _++_, map, append-assoc}
-use mathlib.Core.Bool.{Bool, true}
-use Prim.Native.Nat.{ℕ, zero, suc, _+_, _-_, _*_, _^_, _≤_, _<_}
+use mathlib.Core.Bool.{Bool}
+use Prim.Native.Nat.{ℕ, zero, suc, _+_, _-_, _^_, _≤_, _<_}
 use native.Mathlib.Omega.{arith}
 use lib.Dec.{eqb, ltb}
 use lib.ListN.{length, getD, take, drop, length-append, length-map, length-drop, List·getD-map}
-use lib.Seq.{length-take-le, drop-drop, take-append-le, drop-append-add, take-append-seam, take-at, drop-at}
+use lib.Seq.{length-take-le, drop-drop, drop-append-add, take-append-seam, take-at, drop-at}
 use borrow.Author.Tests.{eqb-true, eqb-false, ltb-true, ltb-false}
 use Rattle.words.proofs.Each.{Each, none, more}
 use Rattle.words.proofs.Tests.{either}
@@ -30,24 +30,24 @@ module _ (slot n : ℕ) where
   length-resized (e ∷ es) = either (eqb (e .slot) slot) (λ q. rw q (ap suc (length-map es (moved (e .size) n)))) (λ q. rw q (ap suc (length-resized es)))
 
   -- every slot stands where it stood
-  pub index-resized : (s : ℕ) (es : List Entry) → indexOf s (resized slot n es) ≡ indexOf s es
+  index-resized : (s : ℕ) (es : List Entry) → indexOf s (resized slot n es) ≡ indexOf s es
   index-resized s [] = refl
   index-resized s (e ∷ es) = either (eqb (e .slot) slot) (λ q. rw (q, index-moved (e .size) n s es)) (λ q. rw (q, index-resized s es))
 
   -- an entry before is kept
-  pub resized-before : (es : List Entry) (j : ℕ) (d : Entry) → j < indexOf slot es → getD (resized slot n es) j d ≡ getD es j d
+  resized-before : (es : List Entry) (j : ℕ) (d : Entry) → j < indexOf slot es → getD (resized slot n es) j d ≡ getD es j d
   resized-before [] j d = λ h. absurd (omega arith)
   resized-before (e ∷ es) zero d = either (eqb (e .slot) slot) (λ q. rw q (λ h. absurd (omega arith))) (λ q. rw q (λ h. refl))
   resized-before (e ∷ es) (suc j) d = either (eqb (e .slot) slot) (λ q. rw q (λ h. absurd (omega arith))) (λ q. rw q (λ h. resized-before es j d (omega arith)))
 
   -- the slot's own has the new size
-  pub resized-own : (es : List Entry) (d : Entry) → indexOf slot es < length es
+  resized-own : (es : List Entry) (d : Entry) → indexOf slot es < length es
       → getD (resized slot n es) (indexOf slot es) d ≡ entry (getD es (indexOf slot es) d .slot) (getD es (indexOf slot es) d .offset) n
   resized-own [] d = λ h. absurd (omega arith)
   resized-own (e ∷ es) d = either (eqb (e .slot) slot) (λ q. rw q (λ h. refl)) (λ q. rw q (λ h. resized-own es d (omega arith)))
 
   -- an entry behind moves by the difference
-  pub resized-behind : (es : List Entry) (j : ℕ) (d : Entry) → indexOf slot es < j → j < length es
+  resized-behind : (es : List Entry) (j : ℕ) (d : Entry) → indexOf slot es < j → j < length es
       → getD (resized slot n es) j d ≡ moved (getD es (indexOf slot es) d .size) n (getD es j d)
   resized-behind [] j d = λ h k. absurd (omega arith)
   resized-behind (e ∷ es) zero d = λ h k. absurd (omega arith)

@@ -51,12 +51,13 @@ create-done b b' exam t k e z q =
 
 -- ---- a block, the directory, an entry, a trailer
 
-pub adds : (b blk b1 b2 b3 b4 : List ℕ) (start n slot edition t exam : ℕ) → Adding b blk start n
+pub adds : (b blk b1 b2 b3 b4 : List ℕ) (start n slot edition t exam stated : ℕ) → Adding b blk start n
     → b1 ≡ sets b (start + length blk) (take (12 * n) (drop start b)) → b2 ≡ sets b1 start blk
     → b3 ≡ sets b2 (start + length blk + 12 * n) (entryBytes (entry slot start (length blk)))
-    → b4 ≡ sets b3 (start + length blk + 12 * n + 12) (trailerBytes edition t exam (n + 1) (start + length blk + 12 * n + 44))
+    → b4 ≡ sets b3 (start + length blk + 12 * n + 12) (trailerBytes edition t exam (n + 1) stated) → stated ≡ start + length blk + 12 * n + 44
     → Adds b blk start n slot edition t exam b4 (start + length blk + 12 * n + 44)
-adds b blk b1 b2 b3 b4 start n slot edition t exam h p1 p2 p3 p4 =
+adds b blk b1 b2 b3 b4 start n slot edition t exam stated h p1 p2 p3 q4 e =
+    let p4 = rw e at q4 in
     let d = take (12 * n) (drop start b) in
     let ent = entryBytes (entry slot start (length blk)) in
     let ld : length d ≡ 12 * n = length-take-le (12 * n) (drop start b) (simp length-drop (omega (arith, h .room))) in

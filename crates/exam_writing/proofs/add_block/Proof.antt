@@ -1,3 +1,4 @@
+use native.Mathlib.Omega.{arith}
 use borrow.Author.Needs.{needs}
 use Rattle.exam_writing.proofs.Writes.{adds}
 use Rattle.exam_writing.proofs.add_block.Statement.{statement}
@@ -46,7 +47,7 @@ returns c =
     let at-copy-in = at-put-entry .before .before .before .before in
     let at-move-up = at-copy-in .before .before .before .before in
     let entry = at-move-up .before .before .before .before in
-    adds _ _ _ _ _ _ _ _ _ _ _ _ (entry .pre) (at-move-up .move-up .ensures) (at-copy-in .copy-in .ensures) (at-put-entry .put-entry .ensures) (at-put-trailer .put-trailer .ensures)
+    adds _ _ _ _ _ _ _ _ _ _ _ _ _ (entry .pre) (at-move-up .move-up .ensures) (at-copy-in .copy-in .ensures) (at-put-entry .put-entry .ensures) (at-put-trailer .put-trailer .ensures) (omega arith)
 
 pub add-block-spec : {M : Type 1} → statement M
 add-block-spec =
