@@ -1,4 +1,5 @@
-/* Keeps an exam on disk: stores it, loads it, appends to it, and shows what is refused and what to do then.
+/* Keeps an exam on disk: stores it, loads it, appends to it, replaces a map in it, and shows what is refused and
+ * what to do then.
  *
  *     exam_on_disk FOLDER
  *
@@ -27,6 +28,7 @@
 
 #define FIRST_MAPS 3u               /* slots 0, 1 and 2; slot 3 is appended after loading */
 #define ALL_MAPS 4u
+#define MOVED_COIL 5u               /* a place where none of the coils is at first */
 #define SIDE 64u                    /* a map is SIDE x SIDE values */
 #define VALUES (SIDE * SIDE)
 #define T 10u                       /* tables of 2^10 words */
@@ -61,7 +63,7 @@ static const char *what_to_do(uint32_t number)
     case COIL_TOO_MANY_WORDS:
         return "more than 65,536 words: split the map over several slots; at a fetch: damaged, take the copy";
     case COIL_NO_ROOM:
-        return "lend more room; where the file nears 16,777,216 bytes, begin another file";
+        return "lend more room; near 16,777,216 bytes: begin another file, or make two of this one to replace in";
     case COIL_TOO_SHORT:
         return "too few bytes, or a length beyond the buffer: read the file again, whole, or take the copy";
     case COIL_BAD_TRAILER:
@@ -144,7 +146,7 @@ static void write_all(int to, const uint8_t *bytes, size_t length)
 
 /* Puts the first bytes of kept on disk as they are, in one step for all who read, and readable for the owner
  * alone. The last flush is the folder's: without it a crash may undo the renaming. */
-static void replace(const char *name, size_t length)
+static void put_on_disk(const char *name, size_t length)
 {
     int to;
     system_must(unlinkat(folder, NEW_NAME, 0) == 0 || errno == ENOENT, "remove " NEW_NAME);
@@ -162,7 +164,7 @@ static void store(size_t length)
     uint64_t hash = hash_of(file, length);
     for (unsigned i = 0; i < HASH_BYTES; i++)
         kept[i] = (uint8_t)(hash >> (8 * i));
-    replace(NAME, HASH_BYTES + length);
+    put_on_disk(NAME, HASH_BYTES + length);
     printf("stored as %s: %zu bytes, hash %016" PRIx64 "\n", NAME, HASH_BYTES + length, hash);
 }
 
@@ -200,6 +202,8 @@ static size_t load(const char *name)
 
 /* ---- Maps ---- */
 
+static uint32_t coil_at[ALL_MAPS] = { 0, 1, 2, 3 };     /* the coil whose map a slot holds */
+
 /* A made map: the coil sees more of what is near, and outside a disc is air, 0. */
 static void make_map(uint32_t coil)
 {
@@ -216,11 +220,27 @@ static void make_map(uint32_t coil)
 static size_t append_map(size_t length, uint32_t slot)
 {
     size_t new_length;
-    make_map(slot);
+    make_map(coil_at[slot]);
     if (!done("coil_append", coil_append(file, FILE_ROOM, length, EXAM, slot, words, VALUES,
                                          fcm, COIL_TABLE_WORDS(T), dfcm, COIL_TABLE_WORDS(T),
                                          bench, sizeof bench, &new_length)))
         exit(1);
+    return new_length;
+}
+
+/* COIL_FILE_ROOM is room enough for this too. The bytes that a shorter file leaves free are 0 afterwards: no part of
+ * the old map stays in memory behind the file. What is on disk goes when the new file is put there. */
+static size_t replace_map(size_t length, uint32_t slot, uint32_t coil)
+{
+    size_t new_length;
+    coil_at[slot] = coil;
+    make_map(coil);
+    if (!done("coil_replace", coil_replace(file, FILE_ROOM, length, EXAM, slot, words, VALUES,
+                                           fcm, COIL_TABLE_WORDS(T), dfcm, COIL_TABLE_WORDS(T),
+                                           bench, sizeof bench, &new_length)))
+        exit(1);
+    printf("coil %u was moved and calibrated again: replaced slot %u, the file had %zu bytes and has %zu\n",
+           (unsigned)slot, (unsigned)slot, length, new_length);
     return new_length;
 }
 
@@ -232,7 +252,7 @@ static size_t fetch_and_compare(size_t length, uint32_t slot)
                                        dfcm, COIL_TABLE_WORDS(T), fetched, VALUES, &count)))
         exit(1);
     must_be_true(count == VALUES, "a map of another size");
-    make_map(slot);
+    make_map(coil_at[slot]);
     for (size_t i = 0; i < count; i++)
         different += fetched[i] != words[i];
     return different;
@@ -291,7 +311,7 @@ static void show_a_changed_byte(size_t length)
         exit(1);
     printf("a bit of slot 1 changes on disk\n");
     file[offset + block_length - 1] ^= 1;
-    replace("changed.kept", HASH_BYTES + length);
+    put_on_disk("changed.kept", HASH_BYTES + length);
     must_be_true(load("changed.kept") == 0, "a changed file was loaded");
     printf("    without the hash nobody would see it: coil_fetch answers 0, and %zu values of %u are wrong\n",
            fetch_and_compare(length, 1), VALUES);
@@ -301,7 +321,7 @@ static void show_a_changed_byte(size_t length)
 static void show_a_cut(size_t length)
 {
     printf("the last byte is cut off on disk\n");
-    replace("cut.kept", HASH_BYTES + length - 1);
+    put_on_disk("cut.kept", HASH_BYTES + length - 1);
     must_be_true(load("cut.kept") == 0, "a cut file was loaded");
     printf("    the library sees it too:\n");
     must_be_true(!done("coil_open", coil_open(file, FILE_ROOM, length - 1, EXAM)), "a cut file was opened");
@@ -325,6 +345,9 @@ int main(int argc, char **argv)
     show_another_exam(length);
     show_a_changed_byte(length);
     show_a_cut(length);
+    length = load_all(ALL_MAPS);
+    store(replace_map(length, 1, MOVED_COIL));
+    load_all(ALL_MAPS);
     printf("what to do for each number:\n");
     for (uint32_t number = 0; number <= COIL_FILE_FULL; number++)
         printf("%6u  %s\n", (unsigned)number, what_to_do(number));

@@ -98,11 +98,14 @@ extern "C" {
 #define COIL_APPEND_ROOM(length, n) ((size_t)(length) + 12 + COIL_WORST(n))
 
 /* Bytes of buffer that replacing the words of a slot by n words asks for, where the file has length bytes now
- * and the slot's block has block_length of them. The answer of the replace is the new length. */
-#define COIL_REPLACE_ROOM(length, block_length, n) ((size_t)(length) - (size_t)(block_length) + COIL_WORST(n))
+ * and the slot's block has block_length of them: the file itself, and more where the new block may be longer.
+ * The answer of the replace is the new length. */
+#define COIL_REPLACE_ROOM(length, block_length, n) \
+    ((size_t)(length) + (COIL_WORST(n) > (size_t)(block_length) ? COIL_WORST(n) - (size_t)(block_length) : 0))
 
 /* Bytes of buffer in which k maps of at most n words can be kept, one append after the other, each replaced
- * as often as you like. A file has at most COIL_MOST_ENTRIES maps and COIL_MOST_FILE_BYTES bytes: beyond that
+ * as often as you like. For maps of different lengths add COIL_APPEND_ROOM(0, n) of each to COIL_EMPTY_FILE, with
+ * the larger n where a map is to be replaced by a longer one. A file has at most COIL_MOST_ENTRIES maps and COIL_MOST_FILE_BYTES bytes: beyond that
  * an append answers 12 or 3, and a replace 3. */
 #define COIL_FILE_ROOM(k, n) (COIL_EMPTY_FILE + (size_t)(k) * COIL_APPEND_ROOM(0, n))
 
@@ -183,7 +186,7 @@ uint32_t coil_unpack(const uint8_t *block, size_t block_len,
  * lies beyond length is free room to append and replace. Keep the length with the buffer: each call that makes
  * or changes a file answers the new one. To store the file on disk, write its first length bytes, best under
  * a new name that then replaces the old one, with a hash. To go on with it, read it into a buffer with room to
- * append. examples/exam_on_disk.c does both.
+ * append or replace. examples/exam_on_disk.c does both.
  *
  * "open" in the lists of checks below is all of coil_open's checks in their order. */
 
@@ -267,7 +270,7 @@ uint32_t coil_append(uint8_t *file, size_t file_len, size_t length, uint64_t exa
  *
  *   file, file_len     the buffer; lend at least COIL_REPLACE_ROOM(length, block_length, words_len) bytes, with
  *                      the block_length that coil_find answers for the slot; length + COIL_WORST(words_len) bytes
- *                      are always enough
+ *                      of buffer are always enough (the limit of a file's length holds beside)
  *   length, exam       as for coil_open
  *   slot               the slot whose words go
  *   words, words_len   the new words, more or fewer than before; read only
@@ -277,8 +280,8 @@ uint32_t coil_append(uint8_t *file, size_t file_len, size_t length, uint64_t exa
  *                      one that holds the old length, which is still right then
  *
  * Checks in order: open (4, 7, 8, 9); 10 slot not in the file; 1 tables; 2 more than 65,536 words;
- * 3 COIL_REPLACE_ROOM(length, block_length, words_len) above file_len or above 16,777,216, or bench_len under
- * COIL_WORST(words_len).
+ * 3 length - block_length + COIL_WORST(words_len) above file_len or above 16,777,216, or bench_len under
+ * COIL_WORST(words_len). No words always have room.
  * The old block is not looked at, so a damaged one can be replaced.
  * On success the new block starts where the old one did, and is also in the first bytes of bench. Earlier blocks
  * are where they were. Later blocks have moved, with their bytes as they were: ask coil_find again for their
@@ -286,7 +289,8 @@ uint32_t coil_append(uint8_t *file, size_t file_len, size_t length, uint64_t exa
  * byte for byte, the one that coil_create and coil_append make afresh from the changed maps, where none of those
  * appends is refused.
  * Where the file got shorter, the bytes from *new_length up to the old length are 0, since they were patient
- * data. The buffer beyond both lengths, and the bench beyond the block, are as they were. */
+ * data. The buffer beyond both lengths, and the bench beyond the block, are as they were. Nothing else is cleared:
+ * the bench, the tables and the words that you lend may hold patient data, and so may an older file on disk. */
 uint32_t coil_replace(uint8_t *file, size_t file_len, size_t length, uint64_t exam, uint32_t slot,
                       const uint64_t *words, size_t words_len,
                       uint64_t *fcm, size_t fcm_len, uint64_t *dfcm, size_t dfcm_len,

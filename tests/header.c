@@ -65,6 +65,7 @@ static void numbers_and_limits(void)
     is("file room", COIL_FILE_ROOM(1 + 1, 1), 90);
     is("append room of a sum", 2 * COIL_APPEND_ROOM(30 + 2, 1 + 0), 122);
     is("replace room", COIL_REPLACE_ROOM(53, 9, 1), 61);
+    is("replace room for a shorter block", COIL_REPLACE_ROOM(100, 60, 1), 100);
     is("replace room of sums", 2 * COIL_REPLACE_ROOM(50 + 3, 10 - 1, 1 + 0), 122);
 }
 
