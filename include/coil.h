@@ -183,7 +183,7 @@ uint32_t coil_unpack(const uint8_t *block, size_t block_len,
 /* ---- Exam files ------------------------------------------------------------------------------- */
 
 /* A file is lent as a buffer of file_len bytes. The file itself is the first length bytes of it. What
- * lies beyond length is free room to append and replace. Keep the length with the buffer: each call that makes
+ * lies beyond length is free room for appending and replacing. Keep the length with the buffer: each call that makes
  * or changes a file answers the new one. To store the file on disk, write its first length bytes, best under
  * a new name that then replaces the old one, with a hash. To go on with it, read it into a buffer with room to
  * append or replace. examples/exam_on_disk.c does both.
@@ -284,8 +284,8 @@ uint32_t coil_append(uint8_t *file, size_t file_len, size_t length, uint64_t exa
  * COIL_WORST(words_len). No words always have room.
  * The old block is not looked at, so a damaged one can be replaced.
  * On success the new block starts where the old one did, and is also in the first bytes of bench. Earlier blocks
- * are where they were. Later blocks have moved, with their bytes as they were: ask coil_find again for their
- * place. Every slot keeps its number, and exam number and t are as they were. A file that these calls made is,
+ * are where they were. Later blocks have moved by the difference of the two lengths, with their bytes as they
+ * were: ask coil_find again for their place. Every slot keeps its number, and exam number and t are as they were. A file that these calls made is,
  * byte for byte, the one that coil_create and coil_append make afresh from the changed maps, where none of those
  * appends is refused.
  * Where the file got shorter, the bytes from *new_length up to the old length are 0, since they were patient

@@ -1,7 +1,9 @@
 -- What is promised of the calls from C, each promise with one line of plain words. They are the store's own promises, read through the lent numbers.
 use mathlib.Core.Path.{_≡_, refl, sym, ap, _∙_}
+use mathlib.Core.Logic.{_↔_}
 use mathlib.Core.List.{List, [], _∷_, _++_, List·Mem, mem-cast}
 use Prim.Native.Nat.{ℕ, _+_, _^_, _≤_, _<_}
+use native.Mathlib.Omega.{arith}
 use lib.ListN.{length, getD, take, drop}
 use Rattle.words.specs.Words.{Words}
 use Rattle.words.specs.Bytes.{Bytes}
@@ -11,14 +13,17 @@ use Rattle.block_rules.specs.declared.Packed.{Packed}
 use Rattle.block_rules.specs.declared.Unpacked.{Unpacked}
 use Rattle.block_rules.proofs.Accept.{checks-number}
 use Rattle.blocks.proofs.Claims.{round-trip, pack-numbers, check-numbers, unpack-numbers, pack-one-answer, unpack-one-answer, pack-forgets, unpack-forgets, refused-pack-changes-nothing, refused-unpack-changes-nothing}
+use Rattle.exam_rules.specs.File.{Entry, fileLength, fileBytes}
 use Rattle.exam_rules.specs.Reading.{examIn, fileIn, entryOf}
 use Rattle.exam_rules.specs.Numbers.{findNumber, blockIn}
 use Rattle.exam_rules.specs.Calls.{located}
-use Rattle.exam_rules.specs.Maps.{Map, changed}
+use Rattle.exam_rules.specs.Maps.{Map, fileOf, changed}
 use Rattle.exam_rules.specs.declared.Located.{Located}
 use Rattle.exam_rules.specs.declared.Made.{Made}
+use Rattle.exam_rules.proofs.Accept.{ReplaceTakes}
 use Rattle.exam_rules.proofs.Kept.{found-part}
-use Rattle.exams.proofs.Claims.{MadeOf, created, grown, exchanged, made-opens, made-fetches, append-fetches, replace-fetches, replace-is-afresh, cut-is-never-whole, create-numbers, open-numbers, locate-numbers, fetch-numbers, append-numbers, replace-numbers, create-one-answer, fetch-one-answer, append-one-answer, replace-one-answer, fetch-forgets, append-forgets, replace-forgets, refused-create-changes-nothing, refused-locate-tells-nothing, refused-fetch-changes-nothing, refused-append-changes-nothing, refused-replace-changes-nothing, replace-exchanges, replace-keeps-blocks, freed-bytes-are-zero, own-exam, located-has, fetch-accepts, append-accepts, replace-accepts}
+use Rattle.exam_rules.proofs.Exchanged.{found-old}
+use Rattle.exams.proofs.Claims.{MadeOf, created, grown, exchanged, made-opens, made-fetches, append-fetches, replace-fetches, replace-is-its-parts, replace-is-afresh, cut-is-never-whole, create-numbers, open-numbers, locate-numbers, fetch-numbers, append-numbers, replace-numbers, create-one-answer, fetch-one-answer, append-one-answer, replace-one-answer, fetch-forgets, append-forgets, replace-forgets, refused-create-changes-nothing, refused-locate-tells-nothing, refused-fetch-changes-nothing, refused-append-changes-nothing, refused-replace-changes-nothing, replace-exchanges, replace-keeps-trailer, replace-length, replace-keeps-slots, replace-keeps-blocks, replace-moves-later, replace-puts-block, freed-bytes-are-zero, replace-leaves-the-rest, located-entry, own-exam, located-has, fetch-accepts, append-accepts, replace-accepts}
 use Rattle.coil.specs.Calls.{CoilOpens, CoilChecks, CoilPacks, CoilUnpacks, CoilCreates, CoilFinds, CoilFetches, CoilAppends, CoilReplaces}
 
 -- ---- there and back
@@ -60,12 +65,19 @@ pub coil-append-makes : {exam t : ℕ} {ms : List Map} {b : List ℕ} {l slot : 
     → MadeOf exam t (ms ++ (record { slot = slot; words = words } ∷ [])) b' m
 coil-append-makes k s w c e = grown k s w c e
 
--- With coil_replace it has other words in one map.
+-- With coil_replace it is made of the changed list: other words in one map.
 pub coil-replace-makes : {exam t : ℕ} {ms : List Map} {b : List ℕ} {l slot : ℕ} {words fcm dfcm bench b' f' d' bench' : List ℕ} {r m : ℕ}
     → MadeOf exam t ms b l → Words words → CoilReplaces b l exam slot words fcm dfcm bench r b' f' d' bench' m → r ≡ 0 → MadeOf exam t (changed slot words ms) b' m
 coil-replace-makes k w c e = exchanged k w c e
 
--- So it is byte for byte the file that coil_create and coil_append make afresh from the changed list, where none of those is refused.
+-- So it is the bytes of the file of the changed list.
+pub coil-replace-is-its-parts : (first : List Map) (x : Map) (rest : List Map) {exam t : ℕ} {b : List ℕ} {l : ℕ} {words fcm dfcm bench b' f' d' bench' : List ℕ} {r m : ℕ}
+    → MadeOf exam t (first ++ x ∷ rest) b l → Words words → CoilReplaces b l exam (x .slot) words fcm dfcm bench r b' f' d' bench' m → r ≡ 0
+    → (take m b' ≡ fileBytes (fileOf exam t (first ++ record { slot = x .slot; words = words } ∷ rest)))
+    × (m ≡ fileLength (fileOf exam t (first ++ record { slot = x .slot; words = words } ∷ rest)))
+coil-replace-is-its-parts first x rest h w q e = replace-is-its-parts first x rest h w q e
+
+-- And it is byte for byte the file that coil_create and coil_append make afresh from the changed list, where none of those is refused.
 pub coil-replace-is-afresh : (first : List Map) (x : Map) (rest : List Map) {exam t : ℕ} {b c : List ℕ} {l k : ℕ} {words fcm dfcm bench b' f' d' bench' : List ℕ} {r m : ℕ}
     → MadeOf exam t (first ++ x ∷ rest) b l → Words words → CoilReplaces b l exam (x .slot) words fcm dfcm bench r b' f' d' bench' m → r ≡ 0
     → MadeOf exam t (first ++ record { slot = x .slot; words = words } ∷ rest) c k → (m ≡ k) × (take m b' ≡ take k c)
@@ -75,7 +87,7 @@ coil-replace-is-afresh first x rest h w q e afresh = replace-is-afresh first x r
 pub coil-made-opens : {exam t : ℕ} {ms : List Map} {b : List ℕ} {l r : ℕ} → MadeOf exam t ms b l → CoilOpens b l exam r → r ≡ 0
 coil-made-opens k c = c ∙ made-opens k
 
--- coil_fetch gives back exactly the words that were appended: with tables of 2 ^ t words, whatever they hold, and whatever else the file holds.
+-- coil_fetch gives back exactly the words that were put there last: with tables of 2 ^ t words, whatever they hold, and whatever else the file holds.
 pub coil-made-fetches : (first : List Map) (m : Map) (rest : List Map) {exam t : ℕ} {b : List ℕ} {l : ℕ} {fcm dfcm room f' d' room' : List ℕ} {r n : ℕ}
     → MadeOf exam t (first ++ m ∷ rest) b l → CoilFetches b l exam (m .slot) fcm dfcm room r f' d' room' n
     → length fcm ≡ 2 ^ t → length dfcm ≡ 2 ^ t → length (m .words) ≤ length room
@@ -233,20 +245,78 @@ coil-refused-replace c h = refused-replace-changes-nothing c h
 
 -- ---- a replace exchanges one block and keeps all else
 
+-- coil_replace answers 0 just where it has what it needs.
+pub coil-replace-accepts : {b : List ℕ} {l exam slot : ℕ} {words fcm dfcm bench b' f' d' bench' : List ℕ} {r m : ℕ} → CoilReplaces b l exam slot words fcm dfcm bench r b' f' d' bench' m
+    → (r ≡ 0) ↔ ReplaceTakes b l exam slot (length words) (length fcm) (length dfcm) (length bench)
+coil-replace-accepts c = replace-accepts c
+
 -- Where coil_replace answers 0, the file that it leaves opens for the same exam number.
 pub coil-replace-opens : {b : List ℕ} {l exam slot : ℕ} {words fcm dfcm bench b' f' d' bench' : List ℕ} {r m o : ℕ} → Bytes b
     → CoilReplaces b l exam slot words fcm dfcm bench r b' f' d' bench' m → r ≡ 0 → CoilOpens b' m exam o → o ≡ 0
 coil-replace-opens h c e q = q ∙ replace-exchanges h c e .1
 
+-- With the same edition, t and number of entries.
+pub coil-replace-keeps-trailer : {b : List ℕ} {l exam slot : ℕ} {words fcm dfcm bench b' f' d' bench' : List ℕ} {r m : ℕ} → Bytes b
+    → CoilReplaces b l exam slot words fcm dfcm bench r b' f' d' bench' m → r ≡ 0
+    → (fileIn (take m b') .edition ≡ fileIn (take l b) .edition) × (fileIn (take m b') .t ≡ fileIn (take l b) .t)
+    × (length (fileIn (take m b') .entries) ≡ length (fileIn (take l b) .entries))
+coil-replace-keeps-trailer h c e = replace-keeps-trailer h c e
+
+-- coil_find answers the same number for every slot.
+pub coil-replace-keeps-slots : {b : List ℕ} {l exam slot : ℕ} {words fcm dfcm bench b' f' d' bench' : List ℕ} {r m : ℕ} → Bytes b
+    → CoilReplaces b l exam slot words fcm dfcm bench r b' f' d' bench' m → r ≡ 0 → (s : ℕ) {k o n k' o' n' : ℕ} → CoilFinds b l exam s k o n → CoilFinds b' m exam s k' o' n' → k' ≡ k
+unfolding located
+coil-replace-keeps-slots h c e s p q = ap (λ (x : Located). x .number) q ∙ replace-keeps-slots h c e s ∙ sym (ap (λ (x : Located). x .number) p)
+
+-- For the replaced slot it answers the same offset, and a length that differs as the file's does.
+pub coil-replace-finds-own : {b : List ℕ} {l exam slot : ℕ} {words fcm dfcm bench b' f' d' bench' : List ℕ} {r m : ℕ} → Bytes b
+    → CoilReplaces b l exam slot words fcm dfcm bench r b' f' d' bench' m → r ≡ 0 → {k o n k' o' n' : ℕ} → CoilFinds b l exam slot k o n → CoilFinds b' m exam slot k' o' n'
+    → (o' ≡ o) × (n' + l ≡ n + m)
+unfolding located
+coil-replace-finds-own {b} {l} {exam} {slot} {words} {b' = b'} {m = m} h c e p q =
+    let z = found-old c e in
+    let was = located-entry b l exam slot z in
+    let is = located-entry b' m exam slot (replace-keeps-slots h c e slot ∙ z) in
+    let own = replace-puts-block h c e .0 in
+    let o-was = ap (λ (x : Located). x .offset) p ∙ was .0 in
+    let n-was = ap (λ (x : Located). x .size) p ∙ was .1 in
+    let n-is = ap (λ (x : Located). x .size) q ∙ is .1 ∙ ap (λ (x : Entry). x .size) own in
+    (ap (λ (x : Located). x .offset) q ∙ is .0 ∙ ap (λ (x : Entry). x .offset) own ∙ sym o-was, omega (arith, n-was, n-is, replace-length c e))
+
+-- For another slot that it finds it answers the same length; the same offset where that is before the replaced slot's, and else one that moved as the file's end did.
+pub coil-replace-finds-others : {b : List ℕ} {l exam slot : ℕ} {words fcm dfcm bench b' f' d' bench' : List ℕ} {r m : ℕ} → Bytes b
+    → CoilReplaces b l exam slot words fcm dfcm bench r b' f' d' bench' m → r ≡ 0 → {k₀ o₀ n₀ : ℕ} → CoilFinds b l exam slot k₀ o₀ n₀
+    → (s : ℕ) → (s ≡ slot → ⊥) → {k o n k' o' n' : ℕ} → CoilFinds b l exam s k o n → k ≡ 0 → CoilFinds b' m exam s k' o' n'
+    → (n' ≡ n) × (o ≤ o₀ → o' ≡ o) × (o₀ < o → o' + l ≡ o + m)
+unfolding located
+coil-replace-finds-others {b} {l} {exam} {slot} {words} {b' = b'} {m = m} h c e own s other p z q =
+    let found = sym (ap (λ (x : Located). x .number) p) ∙ z in
+    let mine = located-entry b l exam slot (found-old c e) in
+    let was = located-entry b l exam s found in
+    let is = located-entry b' m exam s (replace-keeps-slots h c e s ∙ found) in
+    let moves = replace-moves-later h c e s other found in
+    let o-own = ap (λ (x : Located). x .offset) own ∙ mine .0 in
+    let o-was = ap (λ (x : Located). x .offset) p ∙ was .0 in
+    let o-is = ap (λ (x : Located). x .offset) q ∙ is .0 in (
+      ap (λ (x : Located). x .size) q ∙ is .1 ∙ replace-keeps-blocks h c e s other found .1 ∙ sym (ap (λ (x : Located). x .size) p ∙ was .1),
+      λ before. o-is ∙ moves .0 (omega (arith, o-own, o-was)) ∙ sym o-was,
+      λ behind. omega (arith, o-is, o-was, moves .1 (omega (arith, o-own, o-was)), replace-length c e),
+    )
+
 -- Every other slot keeps the bytes of its block.
 pub coil-replace-keeps-blocks : {b : List ℕ} {l exam slot : ℕ} {words fcm dfcm bench b' f' d' bench' : List ℕ} {r m : ℕ} → Bytes b
     → CoilReplaces b l exam slot words fcm dfcm bench r b' f' d' bench' m → r ≡ 0 → (s : ℕ) → (s ≡ slot → ⊥) → findNumber b l exam s ≡ 0 → blockIn b' m s ≡ blockIn b l s
-coil-replace-keeps-blocks h c e s n z = replace-keeps-blocks h c e s n z .1
+coil-replace-keeps-blocks h c e s n z = replace-keeps-blocks h c e s n z .2
 
 -- Freed bytes are 0: those between the new end and the old end, where the file got shorter.
 pub coil-freed-bytes-are-zero : {b : List ℕ} {l exam slot : ℕ} {words fcm dfcm bench b' f' d' bench' : List ℕ} {r m : ℕ}
     → CoilReplaces b l exam slot words fcm dfcm bench r b' f' d' bench' m → r ≡ 0 → (i d : ℕ) → m ≤ i → i < l → getD b' i d ≡ 0
 coil-freed-bytes-are-zero c e i d h k = freed-bytes-are-zero c e i d h k
+
+-- Beyond both ends the buffer is as it was.
+pub coil-replace-leaves-the-rest : {b : List ℕ} {l exam slot : ℕ} {words fcm dfcm bench b' f' d' bench' : List ℕ} {r m : ℕ}
+    → CoilReplaces b l exam slot words fcm dfcm bench r b' f' d' bench' m → r ≡ 0 → (i d : ℕ) → m ≤ i → l ≤ i → getD b' i d ≡ getD b i d
+coil-replace-leaves-the-rest c e i d h k = replace-leaves-the-rest c e i d h k
 
 -- ---- what the tables held before plays no part
 

@@ -13,7 +13,7 @@ use Rattle.answers.proofs.Checks.{unless-holds, afterwards-new}
 use Rattle.exam_rules.specs.File.{Entry, entry, entryBytes, directoryBytes, trailerBytes, File, fileLength, fileBytes, resized}
 use Rattle.exam_rules.specs.Reading.{entryAt, entriesAt, fileIn, indexOf, entryOf}
 use Rattle.exam_rules.specs.Numbers.{mostBytes, slotNumber}
-use Rattle.exam_rules.specs.Inside.{Standing}
+use Rattle.exam_rules.specs.Inside.{Entries, Standing}
 use Rattle.exam_rules.specs.declared.Trailer.{Trailer}
 use Rattle.exam_rules.proofs.Directory.{block-within, blocks-in-order}
 use Rattle.exam_rules.proofs.Opens.{OpensIn, opens-in, done-tells, standing}
@@ -125,6 +125,9 @@ module _ (b blk : List ℕ) (l exam : ℕ) (tr : Trailer) (p : Part) (w : Replac
             rw e (omega (arith, rw (lower, upper) at order, old-is, ap (λ (x : Entry). x .size) its-read));
         small = omega (arith, w .small);
       }
+
+  pub stands-with : Entries b place (behind + 1)
+  stands-with = record { room = omega (arith, spans, in-buffer, index-below); few = omega (arith, lies .few, index-below) }
 
   -- ---- the directory
 

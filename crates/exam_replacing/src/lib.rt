@@ -6,6 +6,7 @@ ghost use lib.ListN.{take, drop};
 ghost use lib.Seq.{sets};
 ghost use Rattle.answers.specs.Answers.{firstFailure};
 ghost use Rattle.exam_rules.specs.Calls.{opened, Replaces};
+ghost use Rattle.exam_rules.specs.Inside.{Entries};
 ghost use Rattle.exam_rules.specs.declared.Opened.the-variants.{Done};
 ghost use Rattle.exam_replacing.specs.Inside.{Behind, movedBytes, resizedBytes, Exchanging, Replacing, Rewrites};
 use exam_opening::Part;
@@ -31,7 +32,7 @@ fn move_offsets(file: &mut [u8], at: usize, n: usize, old: usize, new: usize)
 
 // Moves the offsets of the n entries behind the one at a place, and gives that one another size.
 fn resize(file: &mut [u8], place: usize, n: usize, old: usize, new: usize)
-    requires { ⌜ Behind (now file) (place + 12) n old new ⌝ }
+    requires { ⌜ Entries (now file) place (n + 1) × Behind (now file) (place + 12) n old new ⌝ }
     ensures { λ _. ⌜ now (file .exit) ≡ sets (now (file .entry)) place (resizedBytes (now (file .entry)) place n old new) ⌝ }
 {
     move_offsets(file, place + 12, n, old, new);

@@ -92,7 +92,7 @@ module _ (test : ℕ → ℕ → Bool) where
       let n : i < length es = omega arith in
       rw (ne-eqb (e .slot) (getD es i d .slot) (λ q. omega (arith, each-keeps _ _ es to i d (k .rest) n .0))) (ap suc (index-is _ _ es to i d (k .rest) n))
 
--- a test by which what comes next starts no earlier than what came before ends, wherever the two stand together
+-- a test by which what comes next starts no earlier than what came before ends, and which says the same of both moved by one distance
 pub record Forward (test : ℕ → ℕ → Bool) : Type 0 where
   pub up : (end next : ℕ) → test end next ≡ true → end ≤ next
   pub along : (end next old n : ℕ) → old ≤ end → test end next ≡ true → test (end + n - old) (next + n - old) ≡ true

@@ -19,8 +19,8 @@ use Rattle.exam_rules.proofs.Lengths.{length-file}
 use Rattle.exam_rules.proofs.Changes.{changes-number}
 use Rattle.exam_rules.proofs.Entries.{bytes-take}
 use Rattle.exam_rules.proofs.Accept.{find-tells, replace-tells}
-use Rattle.exam_rules.proofs.Resized.{length-resized, length-replaced, index-replaced, own-entry, own-block, other-size, other-block, offset-before, offset-behind}
-use Rattle.exam_rules.proofs.Holds.{Holds, holds-length, holds-parts, holds-opens, replaced-holds}
+use Rattle.exam_rules.proofs.Resized.{length-resized, length-replaced, index-replaced, own-entry, own-block, other-slot, other-size, other-block, offset-before, offset-behind}
+use Rattle.exam_rules.proofs.Holds.{Holds, holds-parts, holds-opens, replaced-holds}
 use Rattle.exam_rules.proofs.Kept.{good-read}
 
 module _ {b : List ℕ} {l exam slot : ℕ} {words fcm dfcm bench b' fcm' dfcm' bench' : List ℕ} {r : Made}
@@ -64,6 +64,10 @@ module _ {b : List ℕ} {l exam slot : ℕ} {words fcm dfcm bench b' fcm' dfcm' 
   unfolding made
   length-is = ap (λ (x : Made). x .length) (c .file .answer) ∙ afterwards-new _ _ 0 number-is ∙ sym (length-file new)
 
+  pub exchanged-length : r .length + entryOf slot old .size ≡ l + length blk
+  exchanged-length =
+      omega (arith, length-is, length-file new, length-replaced old slot blk rule below, parts-long (take l b) (opened-old .is .trailer), opened-old .long)
+
   -- beyond the file stands what the old file's zeros and then the old content have there
   beyond : (i : ℕ) (d : ℕ) → r .length ≤ i → getD b' i d ≡ getD (over zeros b) i d
   beyond i d h =
@@ -100,17 +104,6 @@ module _ {b : List ℕ} {l exam slot : ℕ} {words fcm dfcm bench b' fcm' dfcm' 
     unfolding fileIn
     exchanged-opens = rw (opened-old .is .own) at (holds-opens exchanged-holds)
 
-    -- its length
-    pub exchanged-length : r .length + entryOf slot old .size ≡ l + length blk
-    exchanged-length =
-        omega (
-          arith,
-          holds-length exchanged-holds,
-          length-replaced old slot blk rule below,
-          parts-long (take l b) (opened-old .is .trailer),
-          opened-old .long,
-        )
-
     -- it has the same slots
     pub same-slots : (s : ℕ) → findNumber b' (r .length) exam s ≡ findNumber b l exam s
     unfolding findNumber slotNumber
@@ -133,11 +126,12 @@ module _ {b : List ℕ} {l exam slot : ℕ} {words fcm dfcm bench b' fcm' dfcm' 
 
     -- another keeps its size and its block, and its place or the distance from what stands before it
     module _ (s : ℕ) (other : s ≡ slot → ⊥) (found : findNumber b l exam s ≡ 0) where
-      pub kept-beside : (entryOf s (fileIn (take (r .length) b')) .size ≡ entryOf s old .size) × (blockIn b' (r .length) s ≡ blockIn b l s)
+      pub kept-beside : (entryOf s (fileIn (take (r .length) b')) .slot ≡ entryOf s old .slot) × (entryOf s (fileIn (take (r .length) b')) .size ≡ entryOf s old .size)
+          × (blockIn b' (r .length) s ≡ blockIn b l s)
       unfolding blockIn
       kept-beside =
           let k = find-tells b l exam s found .1 in
-          rw (holds-parts exchanged-holds) (other-size old slot blk rule below s k other, other-block old slot blk rule below s k other)
+          rw (holds-parts exchanged-holds) (other-slot old slot blk rule below s k other, other-size old slot blk rule below s k other, other-block old slot blk rule below s k other)
 
       pub place-before : entryOf s old .offset ≤ entryOf slot old .offset → entryOf s (fileIn (take (r .length) b')) .offset ≡ entryOf s old .offset
       place-before q =

@@ -248,6 +248,9 @@ module _ (f : File) (slot : ℕ) (b : List ℕ) (z : directoryNumber f ≡ 0) (h
     pub other-size : (s ≡ slot → ⊥) → entryOf s new .size ≡ other .size
     other-size q = one-before q (λ e. ap (λ (x : Entry). x .size) (entry-before e)) (λ e. ap (λ (x : Entry). x .size) (entry-behind e))
 
+    pub other-slot : (s ≡ slot → ⊥) → entryOf s new .slot ≡ other .slot
+    other-slot q = one-before q (λ e. ap (λ (x : Entry). x .slot) (entry-before e)) (λ e. ap (λ (x : Entry). x .slot) (entry-behind e))
+
     pub other-block : (s ≡ slot → ⊥) → blockOf new (entryOf s new) ≡ blockOf f other
     other-block q = one-before q block-before block-behind
 

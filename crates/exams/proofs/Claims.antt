@@ -118,7 +118,7 @@ append-accepts {words} {fcm} {dfcm} {bench} c = (
   (λ k. changes-number (c .file) ∙ takes-append _ _ _ _ words fcm dfcm bench k),
 )
 
--- Replace answers 0 just where it has what it needs: no room for an entry, since that is there.
+-- Replace answers 0 just where it has what it needs. It asks for no entry's room, since the entry is there.
 pub replace-accepts : {b : List ℕ} {l exam slot : ℕ} {words fcm dfcm bench b' f' d' bench' : List ℕ} {r : Made} → Replaces b l exam slot words fcm dfcm bench r b' f' d' bench'
     → (r .number ≡ 0) ↔ ReplaceTakes b l exam slot (length words) (length fcm) (length dfcm) (length bench)
 replace-accepts c = ((λ e. replace-takes _ _ _ _ _ _ _ _ (sym (changes-number (c .file)) ∙ e)), (λ k. changes-number (c .file) ∙ takes-replace _ _ _ _ _ _ _ _ k))
@@ -252,14 +252,14 @@ made-fit (grown h s w c e) = each-more (made-fit h) (record { few = append-accep
 made-fit (exchanged h w c e) = changed-fit _ _ (replace-accepts c .0 e .fewWords) w (made-fit h)
 made-fit (copied h e) = made-fit h
 
--- Finding a slot of such a file hands back the block of the words that were appended there.
+-- Finding a slot of such a file hands back the block of the words that its list has for the slot: those that were put there last.
 pub made-finds : (first : List Map) (m : Map) (rest : List Map) {exam t : ℕ} {b : List ℕ} {l : ℕ} {part : List ℕ} {number : ℕ}
     → MadeOf exam t (first ++ m ∷ rest) b l → Finds b l exam (m .slot) part number → (number ≡ 0) × (part ≡ block t (m .words))
 made-finds first m rest {exam} {t} k c =
     let h = maps-piece exam t first m rest (made-holds k) in
     (c .numberLeft ∙ piece-found h, c .answer ∙ afterwards-new _ _ [] (piece-found h) ∙ piece-block h)
 
--- Fetching a slot of such a file gives back exactly the words that were appended there: with tables of 2 ^ t words, whatever they hold, and whatever
+-- Fetching a slot of such a file gives back exactly the words that were put there last: with tables of 2 ^ t words, whatever they hold, and whatever
 -- else the file holds.
 pub made-fetches : (first : List Map) (m : Map) (rest : List Map) {exam t : ℕ} {b : List ℕ} {l : ℕ} {fcm dfcm room fcm' dfcm' room' : List ℕ} {r : Unpacked}
     → MadeOf exam t (first ++ m ∷ rest) b l → Fetches b l exam (m .slot) fcm dfcm room r fcm' dfcm' room'
@@ -269,13 +269,20 @@ made-fetches first m rest {exam} {t} k c lf ld enough =
     let h = maps-piece exam t first m rest (made-holds k) in
     block-fetched t (block t (m .words)) (piece-found h) (piece-block h) (piece-t h) (map-reads t m (each-at first m rest (made-fit k))) c lf ld enough
 
--- Replacing the words of a map of such a file makes the file of the changed list: every other map is the one it was, in its place.
+-- Where the words of a map of such a file are replaced, it is made of the changed list: every other map is the one it was, in its place.
 pub made-replaces : (first : List Map) (m : Map) (rest : List Map) {exam t : ℕ} {b : List ℕ} {l : ℕ} {words fcm dfcm bench b' fcm' dfcm' bench' : List ℕ} {r : Made}
     → MadeOf exam t (first ++ m ∷ rest) b l → Words words → Replaces b l exam (m .slot) words fcm dfcm bench r b' fcm' dfcm' bench' → r .number ≡ 0
     → MadeOf exam t (first ++ record { slot = m .slot; words = words } ∷ rest) b' (r .length)
 made-replaces first m rest {exam} {t} {words = words} k w c e = rw (← (changed-at exam t first m rest words (made-holds k))) (exchanged k w c e)
 
--- So it is byte for byte the file that create and appends make afresh from the changed list, in any buffer, where none of those is refused.
+-- So it is the bytes of the file of the changed list.
+pub replace-is-its-parts : (first : List Map) (m : Map) (rest : List Map) {exam t : ℕ} {b : List ℕ} {l : ℕ} {words fcm dfcm bench b' fcm' dfcm' bench' : List ℕ} {r : Made}
+    → MadeOf exam t (first ++ m ∷ rest) b l → Words words → Replaces b l exam (m .slot) words fcm dfcm bench r b' fcm' dfcm' bench' → r .number ≡ 0
+    → (take (r .length) b' ≡ fileBytes (fileOf exam t (first ++ record { slot = m .slot; words = words } ∷ rest)))
+    × (r .length ≡ fileLength (fileOf exam t (first ++ record { slot = m .slot; words = words } ∷ rest)))
+replace-is-its-parts first m rest k w c e = made-is-its-parts (made-replaces first m rest k w c e)
+
+-- And it is byte for byte the file that create and appends make afresh from the changed list, in any buffer, where none of those is refused.
 pub replace-is-afresh : (first : List Map) (m : Map) (rest : List Map) {exam t : ℕ} {b c : List ℕ} {l k : ℕ} {words fcm dfcm bench b' fcm' dfcm' bench' : List ℕ} {r : Made}
     → MadeOf exam t (first ++ m ∷ rest) b l → Words words → Replaces b l exam (m .slot) words fcm dfcm bench r b' fcm' dfcm' bench' → r .number ≡ 0
     → MadeOf exam t (first ++ record { slot = m .slot; words = words } ∷ rest) c k → (r .length ≡ k) × (take (r .length) b' ≡ take k c)
@@ -301,6 +308,12 @@ pub found-is-long : {b : List ℕ} {l exam slot : ℕ} {part : List ℕ} {number
 found-is-long {b} {l} {exam} {slot} c e =
     let z = sym (c .numberLeft) ∙ e in
     rw (c .answer ∙ afterwards-new _ _ [] z) (found-long b l exam slot z)
+
+-- Where locate answers 0, offset and size are those of the slot's entry.
+pub located-entry : (b : List ℕ) (l exam slot : ℕ) → located b l exam slot .number ≡ 0
+    → (located b l exam slot .offset ≡ entryOf slot (fileIn (take l b)) .offset) × (located b l exam slot .size ≡ entryOf slot (fileIn (take l b)) .size)
+unfolding located
+located-entry b l exam slot z = (afterwards-new _ _ 0 z, afterwards-new _ _ 0 z)
 
 -- A refused locate answers 0 for the offset and for the size.
 pub refused-locate-tells-nothing : (b : List ℕ) (l exam slot : ℕ) → (located b l exam slot .number ≡ 0 → ⊥) → (located b l exam slot .offset ≡ 0) × (located b l exam slot .size ≡ 0)
@@ -404,20 +417,21 @@ replace-keeps-trailer {b} {l} {exam} {slot} {words} h c e =
     rw (holds-parts (exchanged-holds c e h)) (refl, refl, length-resized (entryOf slot f .slot) (length (block (f .t) words)) (f .entries))
 
 -- Its length changes by the difference of the two blocks.
-pub replace-length : {b : List ℕ} {l exam slot : ℕ} {words fcm dfcm bench b' fcm' dfcm' bench' : List ℕ} {r : Made} → Bytes b
+pub replace-length : {b : List ℕ} {l exam slot : ℕ} {words fcm dfcm bench b' fcm' dfcm' bench' : List ℕ} {r : Made}
     → Replaces b l exam slot words fcm dfcm bench r b' fcm' dfcm' bench' → r .number ≡ 0
     → r .length + entryOf slot (fileIn (take l b)) .size ≡ l + length (block (fileIn (take l b) .t) words)
-replace-length h c e = exchanged-length c e h
+replace-length c e = exchanged-length c e
 
 -- It has the slots that it had: find answers the same number for every slot.
 pub replace-keeps-slots : {b : List ℕ} {l exam slot : ℕ} {words fcm dfcm bench b' fcm' dfcm' bench' : List ℕ} {r : Made} → Bytes b
     → Replaces b l exam slot words fcm dfcm bench r b' fcm' dfcm' bench' → r .number ≡ 0 → (s : ℕ) → findNumber b' (r .length) exam s ≡ findNumber b l exam s
 replace-keeps-slots h c e s = same-slots c e h s
 
--- Every other slot keeps its size and the bytes of its block.
+-- Every other slot keeps its entry's slot and size, and the bytes of its block.
 pub replace-keeps-blocks : {b : List ℕ} {l exam slot : ℕ} {words fcm dfcm bench b' fcm' dfcm' bench' : List ℕ} {r : Made} → Bytes b
     → Replaces b l exam slot words fcm dfcm bench r b' fcm' dfcm' bench' → r .number ≡ 0 → (s : ℕ) → (s ≡ slot → ⊥) → findNumber b l exam s ≡ 0
-    → (entryOf s (fileIn (take (r .length) b')) .size ≡ entryOf s (fileIn (take l b)) .size) × (blockIn b' (r .length) s ≡ blockIn b l s)
+    → (entryOf s (fileIn (take (r .length) b')) .slot ≡ entryOf s (fileIn (take l b)) .slot) × (entryOf s (fileIn (take (r .length) b')) .size ≡ entryOf s (fileIn (take l b)) .size)
+    × (blockIn b' (r .length) s ≡ blockIn b l s)
 replace-keeps-blocks h c e s n z = kept-beside c e h s n z
 
 -- A block that stood before keeps its offset; a later offset moves by the difference of the two blocks.

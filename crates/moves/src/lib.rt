@@ -1,5 +1,6 @@
-// Bytes moved down inside a buffer, or either way, and bytes set to zero: what a file needs that gets
-// shorter. A tool's `requires` is met by the crate that calls it.
+// Bytes moved inside a buffer and bytes set to zero, for a file whose blocks change their place. (`words`
+// has `move_up`, which is all that a growing file needs.) A tool's `requires` is met by the crate that
+// calls it.
 ghost use mathlib.Core.Path.{_≡_};
 ghost use Prim.Native.Nat.{_+_, _-_, _≤_};
 ghost use lib.ListN.{length, replicate, take, drop};

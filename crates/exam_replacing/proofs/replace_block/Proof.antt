@@ -1,6 +1,6 @@
 use native.Mathlib.Omega.{arith}
 use borrow.Author.Needs.{needs}
-use Rattle.exam_replacing.proofs.Rewriting.{lies, stands-behind, exchanging, rewrites}
+use Rattle.exam_replacing.proofs.Rewriting.{lies, stands-behind, stands-with, exchanging, rewrites}
 use Rattle.exam_replacing.proofs.replace_block.Statement.{statement}
 use Rattle.exam_replacing.proofs.replace_block.Tie as tie
 
@@ -30,7 +30,7 @@ sub-resize-2 c =
 resize-requires : tie.Need-resize-requires
 resize-requires c κs =
     let entry = c .before .before .before .before .before .before .before in
-    stands-behind _ _ _ _ _ _ (entry .pre)
+    (stands-with _ _ _ _ _ _ (entry .pre), stands-behind _ _ _ _ _ _ (entry .pre))
 
 mul-end : tie.Need-mul-end
 mul-end c =

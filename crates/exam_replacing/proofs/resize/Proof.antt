@@ -25,7 +25,7 @@ returns c =
     let at-move-offsets = at-put-bytes .before .before .before .before in
     let at-slice-known = at-move-offsets .before .before in
     let entry = at-slice-known .before in
-    resizes (entry .args .file .now) _ _ (entry .args .place) (entry .args .n) (entry .args .old) (entry .args .new) (λ i. at-slice-known .slice-known .given i .fits) (omega (arith, entry .pre .stand .room)) (at-move-offsets .move-offsets .ensures) (at-put-bytes .put-bytes .ensures)
+    resizes (entry .args .file .now) _ _ (entry .args .place) (entry .args .n) (entry .args .old) (entry .args .new) (λ i. at-slice-known .slice-known .given i .fits) (omega (arith, entry .pre .0 .room)) (at-move-offsets .move-offsets .ensures) (at-put-bytes .put-bytes .ensures)
 
 pub resize-spec : {M : Type 1} → statement M
 resize-spec =
