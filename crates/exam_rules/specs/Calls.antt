@@ -111,7 +111,8 @@ module _ (b : List ℕ) (l exam slot : ℕ) (words fcm dfcm bench : List ℕ) wh
     pub dfcmLeft : dfcm' ≡ afterwards appendsNumber (appendsMemory .dfcm) dfcm
     pub benchLeft : bench' ≡ afterwards appendsNumber (over appendsBlock bench) bench
 
--- a buffer whose old file of l bytes is set to 0, where the call answers 0: what the new file does not cover of it stays 0
+-- what a new file is laid over: the buffer, where the call answers 0 with 0 in the place of its old file of l bytes. What the new file does not cover
+-- of these stays 0
 abbrev pub wiped : ℕ → ℕ → List ℕ → List ℕ
 wiped k l b = afterwards k (over (replicate l 0) b) b
 

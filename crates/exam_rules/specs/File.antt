@@ -70,7 +70,7 @@ appended f slot b =
       entries = f .entries ++ (entry slot (length (f .body)) (length b) ∷ []);
     }
 
--- an entry behind a block that had `old` bytes and has n: its offset moves by the difference
+-- an entry behind a block that had `old` bytes and has n: its offset, which is at least `old`, moves by the difference
 abbrev pub moved : ℕ → ℕ → Entry → Entry
 moved old n e = entry (e .slot) (e .offset + n - old) (e .size)
 
@@ -79,7 +79,7 @@ abbrev pub resized : ℕ → ℕ → List Entry → List Entry
 resized slot n [] = []
 resized slot n (e ∷ es) = cond (eqb (e .slot) slot) (entry (e .slot) (e .offset) n ∷ map (moved (e .size) n) es) (e ∷ resized slot n es)
 
--- a file with the block b in the place of an entry's block: at the entry's own offset, where the entry's own size stood
+-- a file with the block b in the place of an entry's block: it starts at the entry's offset, and what stood behind the entry's size stands behind it
 abbrev pub replaced : File → Entry → List ℕ → File
 replaced f e b =
     record {
