@@ -139,16 +139,26 @@ static void open_file(size_t length, uint64_t exam)
     printf(": answers %u\n", (unsigned)coil_open(file, file_len, length, exam));
 }
 
+/* A call that packs words into a file: append or replace. */
+typedef uint32_t store_call(uint8_t *, size_t, size_t, uint64_t, uint32_t, const uint64_t *, size_t,
+                            uint64_t *, size_t, uint64_t *, size_t, uint8_t *, size_t, size_t *);
+
+static void store(store_call *call, size_t length, uint64_t exam, uint32_t slot, const uint64_t *words, size_t count,
+                  size_t fcm_len, size_t dfcm_len, size_t bench_len)
+{
+    size_t new_length = NOT_ANSWERED;
+    print_given_words(words, count);
+    printf(", tables of %zu and %zu, buffer %zu, bench %zu", fcm_len, dfcm_len, file_len, bench_len);
+    uint32_t answer = call(file, file_len, length, exam, slot, words, count, fcm, fcm_len,
+                           dfcm, dfcm_len, bench, bench_len, &new_length);
+    printf(": answers %u, length %zu\n", (unsigned)answer, new_length);
+}
+
 static void append(size_t length, uint64_t exam, uint32_t slot, const uint64_t *words, size_t count,
                    size_t fcm_len, size_t dfcm_len, size_t bench_len)
 {
-    size_t new_length = NOT_ANSWERED;
     printf("append slot %u to exam %llu, words", (unsigned)slot, (unsigned long long)exam);
-    print_given_words(words, count);
-    printf(", tables of %zu and %zu, buffer %zu, bench %zu", fcm_len, dfcm_len, file_len, bench_len);
-    uint32_t answer = coil_append(file, file_len, length, exam, slot, words, count, fcm, fcm_len,
-                                  dfcm, dfcm_len, bench, bench_len, &new_length);
-    printf(": answers %u, length %zu\n", (unsigned)answer, new_length);
+    store(coil_append, length, exam, slot, words, count, fcm_len, dfcm_len, bench_len);
 }
 
 /* Appends the one word 0 with tables of 2 words. */
@@ -160,13 +170,8 @@ static void append_zero(size_t length, uint64_t exam, uint32_t slot, size_t benc
 static void replace(size_t length, uint64_t exam, uint32_t slot, const uint64_t *words, size_t count,
                     size_t fcm_len, size_t dfcm_len, size_t bench_len)
 {
-    size_t new_length = NOT_ANSWERED;
     printf("replace slot %u of exam %llu in %zu bytes, words", (unsigned)slot, (unsigned long long)exam, length);
-    print_given_words(words, count);
-    printf(", tables of %zu and %zu, buffer %zu, bench %zu", fcm_len, dfcm_len, file_len, bench_len);
-    uint32_t answer = coil_replace(file, file_len, length, exam, slot, words, count, fcm, fcm_len,
-                                   dfcm, dfcm_len, bench, bench_len, &new_length);
-    printf(": answers %u, length %zu\n", (unsigned)answer, new_length);
+    store(coil_replace, length, exam, slot, words, count, fcm_len, dfcm_len, bench_len);
 }
 
 /* Replaces by the one word 1 with tables of 2 words. */

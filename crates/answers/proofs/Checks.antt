@@ -1,12 +1,12 @@
 -- Checks in order, and what is left.
-use mathlib.Core.Path.{_≡_, refl, ap, _∙_}
+use mathlib.Core.Path.{_≡_, refl, sym, ap, _∙_}
 use mathlib.Core.List.{List, [], _∷_, _++_}
 use mathlib.Core.Bool.{Bool, true, false, _&&_, true≢false, false≢true}
-use Prim.Native.Nat.{ℕ, zero, suc, _≤_, _<_}
+use Prim.Native.Nat.{ℕ, zero, suc, _+_, _-_, _≤_, _<_}
 use native.Mathlib.Omega.{arith}
 use native.Mathlib.Nat.{zero-add}
-use lib.ListN.{length, drop, length-append}
-use lib.Seq.{sets, sets-eq}
+use lib.ListN.{length, getD, drop, length-append}
+use lib.Seq.{sets, sets-eq, getD-append-add, getD-drop}
 use Rattle.answers.specs.Answers.{unless, firstFailure, afterwards, over}
 
 -- ---- a check
@@ -81,6 +81,15 @@ afterwards-old (suc k) new old h = refl
 -- stores from the first place on, within the list
 pub sets-over : (vs l : List ℕ) → length vs ≤ length l → sets l 0 vs ≡ over vs l
 sets-over vs l h = sets-eq vs l 0 (omega arith) ∙ ap (λ (k : ℕ). vs ++ drop k l) (zero-add (length vs))
+
+-- beyond the result stands the old content
+pub over-beyond : (result old : List ℕ) (i d : ℕ) → length result ≤ i → getD (over result old) i d ≡ getD old i d
+over-beyond result old i d h =
+    let n : length result + (i - length result) ≡ i = omega arith in
+    ap (λ (k : ℕ). getD (over result old) k d) (sym n)
+    ∙ getD-append-add result (drop (length result) old) (i - length result) d
+    ∙ getD-drop (length result) old (i - length result) d
+    ∙ ap (λ (k : ℕ). getD old k d) n
 
 -- what a call tells of its result's length is within the output that it leaves, refused or not
 pub told-within : (k : ℕ) (result old : List ℕ) → afterwards k (length result) 0 ≤ length (afterwards k (over result old) old)

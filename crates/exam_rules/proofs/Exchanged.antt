@@ -1,13 +1,12 @@
 -- An accepted replace exchanges one block and keeps all else, in any file that opens.
 use mathlib.Core.Path.{_≡_, sym, ap, _∙_}
 use mathlib.Core.List.{List}
-use Prim.Native.Nat.{ℕ, _+_, _-_, _≤_, _<_}
+use Prim.Native.Nat.{ℕ, _+_, _≤_, _<_}
 use native.Mathlib.Omega.{arith}
 use lib.ListN.{length, getD, replicate, take, drop, length-replicate, getD-replicate, List·getD-append}
-use lib.Seq.{getD-drop, getD-append-add}
 use Rattle.words.specs.Bytes.{Bytes}
 use Rattle.answers.specs.Answers.{over}
-use Rattle.answers.proofs.Checks.{afterwards-new}
+use Rattle.answers.proofs.Checks.{afterwards-new, over-beyond}
 use Rattle.block_rules.specs.Block.{block}
 use Rattle.exam_rules.specs.File.{entry, File, fileBytes, replaced}
 use Rattle.exam_rules.specs.Reading.{fileIn, indexOf, entryOf}
@@ -70,27 +69,14 @@ module _ {b : List ℕ} {l exam slot : ℕ} {words fcm dfcm bench b' fcm' dfcm' 
 
   -- beyond the file stands what the old file's zeros and then the old content have there
   beyond : (i : ℕ) (d : ℕ) → r .length ≤ i → getD b' i d ≡ getD (over zeros b) i d
-  beyond i d h =
-      let x = fileBytes new in
-      let n : length x + (i - length x) ≡ i = omega (arith, length-is) in
-      ap (λ (y : List ℕ). getD y i d) buffer-is
-      ∙ ap (λ (k : ℕ). getD (over x (over zeros b)) k d) (sym n)
-      ∙ getD-append-add x (drop (length x) (over zeros b)) (i - length x) d
-      ∙ getD-drop (length x) (over zeros b) (i - length x) d
-      ∙ ap (λ (k : ℕ). getD (over zeros b) k d) n
+  beyond i d h = ap (λ (y : List ℕ). getD y i d) buffer-is ∙ over-beyond (fileBytes new) (over zeros b) i d (omega (arith, length-is))
 
   pub freed-zero : (i : ℕ) (d : ℕ) → r .length ≤ i → i < l → getD b' i d ≡ 0
   freed-zero i d h k =
       beyond i d h ∙ List·getD-append zeros (drop (length zeros) b) d i (omega (arith, zeros-long)) ∙ getD-replicate l i 0 d k
 
   pub beyond-stays : (i : ℕ) (d : ℕ) → r .length ≤ i → l ≤ i → getD b' i d ≡ getD b i d
-  beyond-stays i d h k =
-      let n : length zeros + (i - length zeros) ≡ i = omega (arith, zeros-long) in
-      beyond i d h
-      ∙ ap (λ (m : ℕ). getD (over zeros b) m d) (sym n)
-      ∙ getD-append-add zeros (drop (length zeros) b) (i - length zeros) d
-      ∙ getD-drop (length zeros) b (i - length zeros) d
-      ∙ ap (λ (m : ℕ). getD b m d) n
+  beyond-stays i d h k = beyond i d h ∙ over-beyond zeros b i d (omega (arith, zeros-long))
 
   -- ---- the file
 
