@@ -76,13 +76,13 @@ static inline unsigned pack_word(predictors *p, uint64_t v, uint8_t **at)
     if (by_dfcm == 0) {
         return 15;
     }
-    unsigned fcm_zeros = (unsigned)__builtin_clzll(by_fcm) / 8;
-    unsigned dfcm_zeros = (unsigned)__builtin_clzll(by_dfcm) / 8;
-    unsigned zeros = dfcm_zeros > fcm_zeros ? dfcm_zeros : fcm_zeros;
+    unsigned fcm_bits = (unsigned)__builtin_clzll(by_fcm);
+    unsigned dfcm_bits = (unsigned)__builtin_clzll(by_dfcm);
+    unsigned zeros = (dfcm_bits > fcm_bits ? dfcm_bits : fcm_bits) / 8;
     unsigned low = zeros - (zeros >= 4);
-    put(*at, dfcm_zeros > fcm_zeros ? by_dfcm : by_fcm);
+    put(*at, dfcm_bits > fcm_bits ? by_dfcm : by_fcm);
     *at += bytes_written(low);
-    return low + (dfcm_zeros > fcm_zeros ? 8 : 0);
+    return low + (dfcm_bits > fcm_bits ? 8 : 0);
 }
 
 uint32_t expert_pack(const uint64_t *words, size_t words_len,

@@ -12,6 +12,7 @@
 #define ref_fetch coil_fetch
 #define ref_append coil_append
 #define ref_replace coil_replace
+#define ref_pack_before coil_pack_before   /* of the reference alone */
 
 #ifndef REFERENCE_SOURCE
 #define REFERENCE_SOURCE "reference.c"

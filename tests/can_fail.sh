@@ -11,8 +11,8 @@ build=$tests/../target/tests/can_fail
 compiler=${CC:-cc}
 runner=()
 flags=(-std=c99 -I "$tests/../include" -I "$tests")
-parts=(compare calls lent words inputs group_blocks group_files group_replace group_order group_damage group_far
-    reference)
+parts=(compare calls lent words inputs group_blocks group_before group_files group_replace group_order group_damage
+    group_far reference)
 at_once=2
 
 if ! command -v "$compiler" >/dev/null; then

@@ -3,6 +3,7 @@
 #define GROUPS_H
 
 void group_blocks(unsigned rounds);
+void group_before(unsigned rounds);
 void group_files(unsigned rounds);
 void group_damage(unsigned rounds);
 void group_replace(unsigned rounds);

@@ -101,6 +101,15 @@ static void learn(predictors *p, uint64_t v)
 
 /* ---- Code and residual bytes ---- */
 
+static unsigned leading_zero_bits(uint64_t residual)
+{
+    unsigned zero_bits = 0;
+    while (zero_bits < 64 && (residual >> (63 - zero_bits)) % 2 == 0) {
+        zero_bits++;
+    }
+    return zero_bits;
+}
+
 static unsigned leading_zero_bytes(uint64_t residual)
 {
     unsigned zero_bytes = 0;
@@ -108,6 +117,21 @@ static unsigned leading_zero_bytes(uint64_t residual)
         zero_bytes++;
     }
     return zero_bytes;
+}
+
+/* Whether dfcm is chosen. */
+typedef int choice(uint64_t fcm_residual, uint64_t dfcm_residual);
+
+/* The rule. */
+static int more_zero_bits(uint64_t fcm_residual, uint64_t dfcm_residual)
+{
+    return leading_zero_bits(dfcm_residual) > leading_zero_bits(fcm_residual);
+}
+
+/* What the rule was when blocks were packed before. */
+static int more_zero_bytes(uint64_t fcm_residual, uint64_t dfcm_residual)
+{
+    return leading_zero_bytes(dfcm_residual) > leading_zero_bytes(fcm_residual);
 }
 
 /* zero bytes:                             0  1  2  3  4  5  6  7  8 */
@@ -185,13 +209,14 @@ static uint32_t refuse_block(const uint8_t *block, size_t block_len, uint64_t *c
 
 /* Writes the block of the words into a room of at least worst_length bytes, all zero, and answers its
  * length. */
-static size_t write_block(uint8_t *block, const uint64_t *words, size_t words_len, predictors *p)
+static size_t write_block(uint8_t *block, const uint64_t *words, size_t words_len, predictors *p,
+                          choice *dfcm_chosen)
 {
     uint64_t at = BLOCK_HEADER + code_bytes(words_len);
     for (size_t i = 0; i < words_len; i++) {
         uint64_t fcm_residual = words[i] ^ fcm_prediction(p);
         uint64_t dfcm_residual = words[i] ^ dfcm_prediction(p);
-        int dfcm_is_chosen = leading_zero_bytes(dfcm_residual) > leading_zero_bytes(fcm_residual);
+        int dfcm_is_chosen = dfcm_chosen(fcm_residual, dfcm_residual);
         uint64_t residual = dfcm_is_chosen ? dfcm_residual : fcm_residual;
         unsigned low_bits = code_low_bits[leading_zero_bytes(residual)];
         write_code(block, i, low_bits + (dfcm_is_chosen ? DFCM_BIT : 0));
@@ -221,11 +246,11 @@ static void read_block(const uint8_t *block, uint64_t count, uint64_t *words, pr
 
 /* Packs after every check has passed: fills the tables and the first bytes of out. */
 static size_t pack_now(const uint64_t *words, size_t words_len, uint64_t *fcm, uint64_t *dfcm,
-                       size_t entries, uint8_t *out)
+                       size_t entries, uint8_t *out, choice *dfcm_chosen)
 {
     predictors p = start_predictors(entries);
     uint8_t *block = room_for(worst_length(words_len));
-    size_t length = write_block(block, words, words_len, &p);
+    size_t length = write_block(block, words, words_len, &p, dfcm_chosen);
     memcpy(out, block, length);
     free(block);
     hand_over_tables(&p, fcm, dfcm);
@@ -254,8 +279,14 @@ uint32_t ref_pack(const uint64_t *words, size_t words_len,
     if (out_len < worst_length(words_len)) {
         return 3;
     }
-    *length = pack_now(words, words_len, fcm, dfcm, fcm_len, out);
+    *length = pack_now(words, words_len, fcm, dfcm, fcm_len, out, more_zero_bits);
     return 0;
+}
+
+size_t ref_pack_before(const uint64_t *words, size_t words_len, uint64_t *fcm, uint64_t *dfcm,
+                       size_t entries, uint8_t *out)
+{
+    return pack_now(words, words_len, fcm, dfcm, entries, out, more_zero_bytes);
 }
 
 uint32_t ref_unpack(const uint8_t *block, size_t block_len,
@@ -529,7 +560,7 @@ uint32_t ref_append(uint8_t *file, size_t file_len, size_t length, uint64_t exam
     if (refusal) {
         return refusal;
     }
-    size_t block_length = pack_now(words, words_len, fcm, dfcm, fcm_len, bench);
+    size_t block_length = pack_now(words, words_len, fcm, dfcm, fcm_len, bench, more_zero_bits);
     *new_length = put_block_in(file, &f, exam, slot, bench, block_length);
     return 0;
 }
@@ -604,7 +635,7 @@ uint32_t ref_replace(uint8_t *file, size_t file_len, size_t length, uint64_t exa
     if (refusal) {
         return refusal;
     }
-    size_t new_size = pack_now(words, words_len, fcm, dfcm, fcm_len, bench);
+    size_t new_size = pack_now(words, words_len, fcm, dfcm, fcm_len, bench, more_zero_bits);
     *new_length = put_block_in_place(file, length, &found, index, bench, new_size);
     return 0;
 }

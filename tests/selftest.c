@@ -50,6 +50,14 @@ static void packs_to(const uint64_t *words, size_t count, unsigned t, const char
     holds(length == expected_length && memcmp(block, expected, length) == 0, hex);
 }
 
+static void packed_before_to(const uint64_t *words, size_t count, unsigned t, const char *hex)
+{
+    uint8_t expected[64];
+    size_t expected_length = from_hex(hex, expected);
+    size_t length = ref_pack_before(words, count, fcm, dfcm, (size_t)1 << t, block);
+    holds(length == expected_length && memcmp(block, expected, length) == 0, hex);
+}
+
 static void worked_blocks(void)
 {
     const uint64_t zero[] = { 0 }, one[] = { 1 }, ones[] = { 1, 1 }, ramp[] = { 1, 2, 3 };
@@ -62,10 +70,20 @@ static void worked_blocks(void)
     packs_to(one, 1, 0, "01 00 00 00 0A 00 00 00 67 01");
     packs_to(ones, 2, 0, "02 00 00 00 0A 00 00 00 67 01");
     packs_to(ramp, 3, 0, "03 00 00 00 0B 00 00 00 6F F7 01");
-    packs_to(one_three, 2, 0, "02 00 00 00 0B 00 00 00 66 01 02");
+    packs_to(one_three, 2, 0, "02 00 00 00 0B 00 00 00 6E 01 01");
     packs_to(four_bytes, 1, 0, "01 00 00 00 0E 00 00 00 37 00 00 00 80 00");
     packs_to(full, 2, 0, "02 00 00 00 19 00 00 00 00 FF FF FF FF FF FF FF FF FF FF FF FF FF FF FF FF");
     packs_to(equal, 3, 6, "03 00 00 00 1A 00 00 00 00 77 00 00 00 00 00 00 F0 3F 00 00 00 00 00 00 F0 3F");
+}
+
+/* As it was packed before, when whole zero bytes were compared. The words 1, 3: fcm predicts 1 for the second, which
+ * leaves 2, and dfcm 2, which leaves 1. Both have seven zero bytes, so fcm was taken; dfcm's has a zero bit more. The
+ * third of 1, 2, 3 has residual 0 by dfcm: more bytes, and more bits. */
+static void worked_before(void)
+{
+    const uint64_t one_three[] = { 1, 3 }, ramp[] = { 1, 2, 3 };
+    packed_before_to(one_three, 2, 0, "02 00 00 00 0B 00 00 00 66 01 02");
+    packed_before_to(ramp, 3, 0, "03 00 00 00 0B 00 00 00 6F F7 01");
 }
 
 static void checks_to(const char *hex, uint32_t answer)
@@ -254,17 +272,26 @@ static uint64_t promised_length(const uint64_t *words, size_t count, unsigned t)
     return codes + (least[count] < 8 * count ? least[count] : 8 * count);
 }
 
-static void there_and_back(kind_of_words kind, unsigned t, size_t count)
+/* The block that was packed last gives the words. */
+static void gives(const uint64_t *words, size_t count, unsigned t, size_t length, const char *kind)
 {
-    static uint64_t words[MOST], back[MOST];
+    static uint64_t back[MOST];
     size_t unpacked = 0;
-    make_words(kind, words, count);
-    size_t length = pack(words, count, t);
-    holds(length <= promised_length(words, count, t), "the promised room");
     holds(ref_check(block, length) == 0, "a packed block is well formed");
     uint32_t answer = ref_unpack(block, length, fcm, (size_t)1 << t, dfcm, (size_t)1 << t,
                                  back, count, &unpacked);
-    holds(answer == 0 && unpacked == count && memcmp(words, back, 8 * count) == 0, kind_names[kind]);
+    holds(answer == 0 && unpacked == count && memcmp(words, back, 8 * count) == 0, kind);
+}
+
+static void there_and_back(kind_of_words kind, unsigned t, size_t count)
+{
+    static uint64_t words[MOST];
+    make_words(kind, words, count);
+    size_t length = pack(words, count, t);
+    holds(length <= promised_length(words, count, t), "the promised room");
+    gives(words, count, t, length, kind_names[kind]);
+    holds(ref_pack_before(words, count, fcm, dfcm, (size_t)1 << t, block) == length, "as long as before");
+    gives(words, count, t, length, kind_names[kind]);
 }
 
 static void round_trips(void)
@@ -282,6 +309,7 @@ int main(void)
 {
     seed_random(1);
     worked_blocks();
+    worked_before();
     worked_refusals();
     table_of_codes();
     worked_hashes();

@@ -9,11 +9,11 @@ slip "packer refuses everything" 'if (words_len > MOST_WORDS) {
     }
     if (out_len' 'return 3;
     if (out_len'
-slip "packer answers one fixed block" 'size_t length = write_block(block, words, words_len, &p);' \
-    'size_t length = write_block(block, words, 0, &p);'
+slip "packer answers one fixed block" 'write_block(block, words, words_len, &p, dfcm_chosen);' \
+    'write_block(block, words, 0, &p, dfcm_chosen);'
 slip "packer writes nothing" 'memcpy(out, block, length);' ''
-slip "only the first word is predicted" 'int dfcm_is_chosen = leading' \
-    'if (i > 0) { fcm_residual = dfcm_residual = words[i]; } int dfcm_is_chosen = leading'
+slip "only the first word is predicted" 'int dfcm_is_chosen = dfcm_chosen' \
+    'if (i > 0) { fcm_residual = dfcm_residual = words[i]; } int dfcm_is_chosen = dfcm_chosen'
 slip "states a length it did not write" 'hand_over_tables(&p, fcm, dfcm);
     return length;' 'hand_over_tables(&p, fcm, dfcm);
     return length + 1;'
@@ -35,10 +35,15 @@ slip "fcm stored under the new hash" 'p->fcm[p->fcm_hash] = v;' \
     'p->fcm[((p->fcm_hash << 6) ^ (v >> 48)) % p->entries] = v;'
 slip "last word starts at 1" 'p.last = 0;' 'p.last = 1;'
 slip "fcm hash starts elsewhere" 'p.fcm_hash = 0;' 'p.fcm_hash = entries - 1;'
-slip "a tie goes to dfcm" 'leading_zero_bytes(dfcm_residual) > ' 'leading_zero_bytes(dfcm_residual) >= '
-slip "bits compared in place of bytes" \
-    'leading_zero_bytes(dfcm_residual) > leading_zero_bytes(fcm_residual)' 'dfcm_residual < fcm_residual'
-slip "dfcm never chosen" 'int dfcm_is_chosen = leading' 'int dfcm_is_chosen = 0 && leading'
+slip "a tie goes to dfcm" 'leading_zero_bits(dfcm_residual) > ' 'leading_zero_bits(dfcm_residual) >= '
+slip "bytes compared in place of bits" \
+    'leading_zero_bits(dfcm_residual) > leading_zero_bits(fcm_residual)' \
+    'leading_zero_bytes(dfcm_residual) > leading_zero_bytes(fcm_residual)'
+slip "residuals compared in place of bits" \
+    'leading_zero_bits(dfcm_residual) > leading_zero_bits(fcm_residual)' 'dfcm_residual < fcm_residual'
+slip "low bits of the residual that was left" 'code_low_bits[leading_zero_bytes(residual)]' \
+    'code_low_bits[leading_zero_bytes(dfcm_is_chosen ? fcm_residual : dfcm_residual)]'
+slip "dfcm never chosen" 'int dfcm_is_chosen = dfcm_chosen' 'int dfcm_is_chosen = 0 && dfcm_chosen'
 
 # ---- Tables
 slip "fcm not cleared before packing" 'uint8_t *block = room_for' \
@@ -337,9 +342,9 @@ slip "append: a refusal clears a table" 'refusal = refuse_append(file' \
 slip "append: packs into the bench before a refusal" 'refusal = refuse_append(file' \
     'if (bench_len > 0) { bench[0] = 0; } refusal = refuse_append(file'
 slip "append: bench not filled" \
-    'size_t block_length = pack_now(words, words_len, fcm, dfcm, fcm_len, bench);' \
+    'size_t block_length = pack_now(words, words_len, fcm, dfcm, fcm_len, bench, more_zero_bits);' \
     'uint8_t *own = room_for(worst_length(words_len));
-    size_t block_length = pack_now(words, words_len, fcm, dfcm, fcm_len, own);
+    size_t block_length = pack_now(words, words_len, fcm, dfcm, fcm_len, own, more_zero_bits);
     *new_length = put_block_in(file, &f, exam, slot, own, block_length); return 0;'
 slip "append: offset of the old end" 'write_field(file + at + 4, 4, f->directory);' \
     'write_field(file + at + 4, 4, at);'
@@ -466,10 +471,11 @@ slip "replace: a refusal clears a table" 'refusal = refuse_replace(&found' \
     'fcm[0] = fcm_len > 0 ? 0 : fcm[0]; refusal = refuse_replace(&found'
 slip "replace: packs into the bench before a refusal" 'refusal = refuse_replace(&found' \
     'if (bench_len > 0) { bench[0] = 0; } refusal = refuse_replace(&found'
-slip "replace: tables left as they were" 'size_t new_size = pack_now(words, words_len, fcm, dfcm, fcm_len, bench);' \
-    'size_t new_size = pack_now(words, words_len, room_for(8 * fcm_len), room_for(8 * fcm_len), fcm_len, bench);'
-slip "replace: bench not filled" 'size_t new_size = pack_now(words, words_len, fcm, dfcm, fcm_len, bench);
+slip "replace: tables left as they were" 'size_t new_size = pack_now(words, words_len, fcm, dfcm, fcm_len, bench, more_zero_bits);' \
+    'size_t new_size = pack_now(words, words_len, room_for(8 * fcm_len), room_for(8 * fcm_len), fcm_len, bench,
+                                more_zero_bits);'
+slip "replace: bench not filled" 'size_t new_size = pack_now(words, words_len, fcm, dfcm, fcm_len, bench, more_zero_bits);
     *new_length = put_block_in_place(file, length, &found, index, bench, new_size);' \
     'uint8_t *own = room_for(worst_length(words_len));
-    size_t new_size = pack_now(words, words_len, fcm, dfcm, fcm_len, own);
+    size_t new_size = pack_now(words, words_len, fcm, dfcm, fcm_len, own, more_zero_bits);
     *new_length = put_block_in_place(file, length, &found, index, own, new_size);'

@@ -22,22 +22,21 @@ pub fn written(code: u8) -> usize
     8 - low - low / 4
 }
 
-// Of two residuals, neither of them 0, the chosen one with its code. The top bit, 8, is for dfcm.
+// Of two residuals, neither of them 0, the chosen one with its code: fcm's, unless dfcm's has more
+// leading zero bits. The top bit of a code, 8, is for dfcm. Only numbers are assigned under the test:
+// noise chooses at random, and the compiler needs no branch for it.
 pub fn chosen(by_fcm: u64, by_dfcm: u64) -> Coded
     requires { ⌜ (0 < «by_fcm») × (0 < «by_dfcm») ⌝ }
     ensures { λ r. ⌜ r ≡ chosen dfcmChosen «by_fcm» «by_dfcm» ⌝ }
 {
-    let zeros_fcm = words::zero_bytes(by_fcm);
-    let zeros_dfcm = words::zero_bytes(by_dfcm);
-    if zeros_fcm < zeros_dfcm {
-        Coded {
-            code: 8 + low_three(zeros_dfcm),
-            residual: by_dfcm,
-        }
-    } else {
-        Coded {
-            code: low_three(zeros_fcm),
-            residual: by_fcm,
-        }
+    let mut top: u8 = 0;
+    let mut residual = by_fcm;
+    let mut zeros = words::zero_bytes(by_fcm);
+    if u64::leading_zeros(by_fcm) < u64::leading_zeros(by_dfcm) {
+        top = 8;
+        residual = by_dfcm;
+        zeros = words::zero_bytes(by_dfcm);
     }
+    let code = top + low_three(zeros);
+    Coded { code, residual }
 }

@@ -11,7 +11,7 @@ use Rattle.answers.specs.Answers.{over}
 use Rattle.answers.proofs.Checks.{sets-over}
 use Rattle.block_rules.specs.Predictors.{cleared}
 use Rattle.block_rules.specs.Codes.{dfcmChosen, codedWords}
-use Rattle.block_rules.specs.Block.{codes, codeBytes, allResidualBytes, body, arranged, block, residualsAt, worst}
+use Rattle.block_rules.specs.Block.{codes, codeBytes, allResidualBytes, body, arranged, blockBy, block, residualsAt, worst}
 use Rattle.block_rules.specs.declared.Coded.{Coded}
 use Rattle.block_rules.proofs.Lengths.{length-codes, length-coded, length-code-bytes, length-body, length-arranged, arranged-at-most}
 
@@ -40,7 +40,7 @@ pub put-block : (t : ℕ) (ws out out₁ out₂ : List ℕ) (end : ℕ) → end 
     → out₁ ≡ sets (sets out 8 (codeBytes (codes (codedWords dfcmChosen t (cleared t) ws)))) (residualsAt (length ws)) (allResidualBytes (codedWords dfcmChosen t (cleared t) ws))
     → out₂ ≡ sets out₁ 0 (lowBytes 4 (length ws) ++ lowBytes 4 end)
     → out₂ ≡ over (block t ws) out
-unfolding block
+unfolding block blockBy
 put-block t ws out out₁ out₂ end e h p q =
     let cs = codedWords dfcmChosen t (cleared t) ws in
     let n : length cs ≡ length ws = length-coded dfcmChosen t (cleared t) ws in

@@ -8,15 +8,19 @@ use lib.ListN.{length, take, drop, length-drop, take-append-drop}
 use Rattle.words.specs.Words.{Words, add64, sub64, shiftedLeft, shiftedRight, lowBits, xor, zeroBytes}
 use Rattle.answers.specs.Answers.{unless, firstFailure, afterwards}
 use Rattle.block_rules.specs.Predictors.{cleared, fcmPrediction, dfcmPrediction, difference, nextFcmHash, nextDfcmHash, learn}
-use Rattle.block_rules.specs.Codes.{fcmResidual, dfcmResidual, dfcmChosen, lowThree, written, codedBy, chosen, codedWord, residualBytes}
-use Rattle.block_rules.specs.Block.{arranged, block, body, worst, count, residualsAt, countedCodes, lastHalf, wordsIn}
+use Rattle.block_rules.specs.Codes.{Choice, fcmResidual, dfcmResidual, dfcmChosen, dfcmChosenByBytes, Thrifty, lowThree, written, codedBy, chosen, codedWord, residualBytes}
+use Rattle.block_rules.specs.Block.{arranged, blockBy, block, body, worst, count, residualsAt, countedCodes, lastHalf, wordsIn}
 use Rattle.block_rules.specs.Room.{Run, joined, Cut, ofEqualWords, runCost, bound, closerBound, Settles}
 use Rattle.block_rules.specs.Calls.{checked}
 use Rattle.block_rules.specs.Worked.{cases, made, worked}
 use Rattle.block_rules.specs.Numbers.{tOf, fillerStands, blockNumber}
 use Rattle.block_rules.proofs.Tables.{t-of-power}
+use Rattle.block_rules.specs.declared.Checked.{Checked}
+use Rattle.block_rules.proofs.Codes.{rule-thrifty, bytes-thrifty}
 use Rattle.block_rules.proofs.Lengths.{block-at-most}
-use Rattle.block_rules.proofs.Accept.{checks-number, counted, too-short-for-codes, whole-alone}
+use Rattle.block_rules.proofs.Accept.{checks-number, check-done, counted, too-short-for-codes, whole-alone}
+use Rattle.block_rules.proofs.Round.{chosen-count, chosen-whole, chosen-words}
+use Rattle.block_rules.proofs.Cost.{blocks-alike}
 use Rattle.block_rules.proofs.Get.{length-words}
 use Rattle.block_rules.proofs.Settle.{update, settles}
 use Rattle.block_rules.proofs.Runs.{block-closer, closer-at-most}
@@ -25,8 +29,35 @@ use Rattle.block_rules.proofs.Runs.{block-closer, closer-at-most}
 
 -- Every case of this list comes out as it was worked by hand.
 pub worked-by-hand : map made cases ≡ map worked cases
-unfolding block arranged body residualBytes codedWord chosen codedBy written lowThree dfcmChosen fcmResidual dfcmResidual learn nextFcmHash nextDfcmHash difference fcmPrediction dfcmPrediction cleared checked blockNumber fillerStands lastHalf countedCodes unless firstFailure afterwards add64 sub64 shiftedLeft shiftedRight lowBits xor zeroBytes leadingZeros
+unfolding block blockBy arranged body residualBytes codedWord chosen codedBy written lowThree dfcmChosen fcmResidual dfcmResidual learn nextFcmHash nextDfcmHash difference fcmPrediction dfcmPrediction cleared checked blockNumber fillerStands lastHalf countedCodes unless firstFailure afterwards add64 sub64 shiftedLeft shiftedRight lowBits xor zeroBytes leadingZeros
 worked-by-hand = refl
+
+-- ---- the choice, and blocks that were packed before
+
+-- The rule's choice never takes the residual with fewer leading zero bytes.
+pub rule-is-thrifty : Thrifty dfcmChosen
+rule-is-thrifty = rule-thrifty
+
+-- Nor did the choice by which blocks were packed before.
+pub before-was-thrifty : Thrifty dfcmChosenByBytes
+before-was-thrifty = bytes-thrifty
+
+-- No length hangs on such a choice: the block of words, by one and by another, has one length. Of all words, and for every t.
+pub choices-cost-alike : (choice other : Choice) → Thrifty choice → Thrifty other → (t : ℕ) (ws : List ℕ) → length (blockBy choice t ws) ≡ length (blockBy other t ws)
+choices-cost-alike choice other h k t ws = blocks-alike choice other h k t ws
+
+-- So a block has the length that it had when it was packed before.
+pub as-long-as-before : (t : ℕ) (ws : List ℕ) → length (block t ws) ≡ length (blockBy dfcmChosenByBytes t ws)
+unfolding block
+as-long-as-before t ws = choices-cost-alike dfcmChosen dfcmChosenByBytes rule-is-thrifty before-was-thrifty t ws
+
+-- A block that was packed before is accepted, with the count of its words.
+pub packed-before-checks : (t : ℕ) (ws : List ℕ) → length ws ≤ 65536 → checked (blockBy dfcmChosenByBytes t ws) ≡ record { number = 0; count = length ws }
+packed-before-checks t ws few = sym (check-done _ _ (chosen-whole dfcmChosenByBytes t ws few) (sym (chosen-count dfcmChosenByBytes t ws few)))
+
+-- And it reads as its words, with tables of the same size.
+pub packed-before-reads : (t : ℕ) (ws : List ℕ) → length ws ≤ 65536 → Words ws → wordsIn t (blockBy dfcmChosenByBytes t ws) ≡ ws
+packed-before-reads t ws few h = chosen-words dfcmChosenByBytes t ws few h
 
 -- ---- nothing cut short, nothing added
 
@@ -85,7 +116,7 @@ one-run-is-three = refl
 
 -- The bound is met exactly: three equal words at t = 6, as one run, take all the room that it gives.
 pub bound-is-met : length (block 6 three) ≡ bound 6 three (record { runs = oneRun; whole = one-run-is-three })
-unfolding block arranged body residualBytes codedWord chosen codedBy written lowThree dfcmChosen fcmResidual dfcmResidual learn nextFcmHash nextDfcmHash difference fcmPrediction dfcmPrediction cleared add64 sub64 shiftedLeft shiftedRight lowBits xor zeroBytes leadingZeros runCost ofEqualWords
+unfolding block blockBy arranged body residualBytes codedWord chosen codedBy written lowThree dfcmChosen fcmResidual dfcmResidual learn nextFcmHash nextDfcmHash difference fcmPrediction dfcmPrediction cleared add64 sub64 shiftedLeft shiftedRight lowBits xor zeroBytes leadingZeros runCost ofEqualWords
 bound-is-met = refl
 
 -- As many words as shift the old bits out, all equal, settle the fcm hash: it no longer depends on what it was, and stays.

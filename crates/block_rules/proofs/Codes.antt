@@ -5,14 +5,15 @@ use mathlib.Core.List.{[], _∷_}
 use Prim.Native.Nat.{ℕ, zero, suc, _+_, _-_, _/_, _%_, _^_, _≤_, _<_}
 use native.Mathlib.Omega.{arith}
 use native.Mathlib.Nat.{lt-of-lt-of-le}
+use lib.Count.{leadingZeros, leading-of-zero, leading-le}
 use lib.Dec.{ltb}
 use lib.ListN.{getD}
-use borrow.Author.Tests.{ltb-true, ltb-false}
+use borrow.Author.Tests.{ltb-true, ltb-false, lt-ltb, le-ltb}
 use Rattle.words.specs.Words.{zeroBytes}
 use Rattle.words.proofs.Tests.{either}
-use Rattle.words.proofs.Zeros.{zeros-at-most, zeros-within, pow-256-le}
+use Rattle.words.proofs.Zeros.{zeros-at-most, zeros-within, pow-256-le, bits-some, zeros-by-bits}
 use Rattle.block_rules.specs.Predictors.{Memory, dfcmPrediction, fcmPrediction}
-use Rattle.block_rules.specs.Codes.{Choice, dfcmChosen, lowThree, written, codedBy, chosen, codedWord, fcmResidual, dfcmResidual, namedPrediction}
+use Rattle.block_rules.specs.Codes.{Choice, dfcmChosen, dfcmChosenByBytes, Thrifty, lowThree, written, codedBy, chosen, codedWord, fcmResidual, dfcmResidual, namedPrediction}
 use Rattle.block_rules.specs.declared.Coded.{Coded}
 
 -- ---- the tables
@@ -94,18 +95,38 @@ names-fcm m r =
 
 -- ---- the choice
 
--- a choice never takes the residual with fewer leading zero bytes: all that the cost of a word rests on
-pub record Thrifty (choice : Choice) : Type 0 where
-  pub dfcm : (f d : ℕ) → choice f d ≡ true → zeroBytes f ≤ zeroBytes d
-  pub fcm : (f d : ℕ) → choice f d ≡ false → zeroBytes d ≤ zeroBytes f
-
 pub rule-thrifty : Thrifty dfcmChosen
 unfolding dfcmChosen
 rule-thrifty =
     record {
+      dfcm = λ f d e. zeros-by-bits f d (omega (arith, ltb-true (leadingZeros 64 f) (leadingZeros 64 d) e));
+      fcm = λ f d e. zeros-by-bits d f (ltb-false (leadingZeros 64 f) (leadingZeros 64 d) e);
+    }
+
+pub bytes-thrifty : Thrifty dfcmChosenByBytes
+unfolding dfcmChosenByBytes
+bytes-thrifty =
+    record {
       dfcm = λ f d e. omega (arith, ltb-true (zeroBytes f) (zeroBytes d) e);
       fcm = λ f d e. ltb-false (zeroBytes f) (zeroBytes d) e;
     }
+
+module _ (f d : ℕ) where
+  pub more-bits : leadingZeros 64 f < leadingZeros 64 d → dfcmChosen f d ≡ true
+  unfolding dfcmChosen
+  more-bits h = lt-ltb (leadingZeros 64 f) (leadingZeros 64 d) h
+
+  pub no-more-bits : leadingZeros 64 d ≤ leadingZeros 64 f → dfcmChosen f d ≡ false
+  unfolding dfcmChosen
+  no-more-bits h = le-ltb (leadingZeros 64 f) (leadingZeros 64 d) h
+
+  -- a residual of 0 by fcm is taken
+  pub zero-by-fcm : f ≡ 0 → dfcmChosen f d ≡ false
+  zero-by-fcm e = no-more-bits (rw e (omega (arith, leading-of-zero 64, leading-le 64 d)))
+
+  -- and one by dfcm, where that by fcm is not 0
+  pub zero-by-dfcm : f < 2 ^ 64 → 0 < f → d ≡ 0 → dfcmChosen f d ≡ true
+  zero-by-dfcm h p e = more-bits (rw e (omega (arith, leading-of-zero 64, bits-some f h p)))
 
 pub chosen-dfcm : (choice : Choice) (f d : ℕ) (r : Coded) → choice f d ≡ true → r ≡ codedBy true d → r ≡ chosen choice f d
 unfolding chosen

@@ -1,19 +1,23 @@
 -- What a word costs: no code and residual that read as the word cost less than those taken, by any choice that is thrifty.
-use mathlib.Core.Path.{_≡_, refl, _∙_, subst}
+use mathlib.Core.Path.{_≡_, refl, sym, ap, _∙_, subst}
 use mathlib.Core.Bool.{true, false}
+use mathlib.Core.List.{List, [], _∷_}
 use Prim.Native.Nat.{ℕ, _+_, _-_, _/_, _%_, max, _^_, _≤_, _<_}
 use native.Mathlib.Omega.{arith}
 use native.Mathlib.Nat.{one-le-pow, lt-of-lt-of-le}
 use lib.Dec.{ltb}
+use lib.ListN.{length}
 use borrow.Author.Tests.{ltb-true, ltb-false}
 use Rattle.words.specs.Words.{xor, zeroBytes}
 use Rattle.words.proofs.Tests.{either}
 use Rattle.words.proofs.Zeros.{zeros-at-most, zeros-of-fit, pow-256-le}
 use Rattle.words.proofs.Xor.{xor-of, xor-none}
-use Rattle.block_rules.specs.Predictors.{Memory, fcmPrediction, dfcmPrediction}
-use Rattle.block_rules.specs.Codes.{Choice, fcmResidual, dfcmResidual, lowThree, written, chosen, codedWord, namedPrediction, decodedWord}
+use Rattle.block_rules.specs.Predictors.{Memory, cleared, fcmPrediction, dfcmPrediction, learn}
+use Rattle.block_rules.specs.Codes.{Choice, Thrifty, fcmResidual, dfcmResidual, lowThree, written, chosen, codedWord, codedWords, namedPrediction, decodedWord}
+use Rattle.block_rules.specs.Block.{allResidualBytes, blockBy}
 use Rattle.block_rules.specs.declared.Coded.{Coded}
-use Rattle.block_rules.proofs.Codes.{low-three-is, low-three-of-zero, written-is, written-small, coded-cost, Thrifty}
+use Rattle.block_rules.proofs.Codes.{low-three-is, low-three-of-zero, written-is, written-small, coded-cost}
+use Rattle.block_rules.proofs.Lengths.{length-residuals, length-block-by}
 
 -- of the codes that write enough for z zero bytes, the code made for z writes least
 least-enough : (z c : ℕ) → z ≤ 8 → 8 - z ≤ written c → written (lowThree z) ≤ written c
@@ -42,13 +46,17 @@ zeros-of-written r c h =
     omega (arith, zeros-of-fit r (written c) w h)
 
 module _ (choice : Choice) (thrifty : Thrifty choice) where
-  -- so the one taken costs no more than any code that writes enough for either residual
-  taken-least : (f d c : ℕ) → 8 - max (zeroBytes f) (zeroBytes d) ≤ written c → written (chosen choice f d .code) ≤ written c
+  -- the one taken is coded for as many zero bytes as either residual has
+  chosen-cost : (f d : ℕ) → written (chosen choice f d .code) ≡ written (lowThree (max (zeroBytes f) (zeroBytes d)))
   unfolding chosen
-  taken-least f d c h =
+  chosen-cost f d =
       either (choice f d)
-      (λ e. rw (e, coded-cost true d) (least-enough (zeroBytes d) c (zeros-at-most d) (omega (arith, thrifty .dfcm f d e))))
-      (λ e. rw (e, coded-cost false f) (least-enough (zeroBytes f) c (zeros-at-most f) (omega (arith, thrifty .fcm f d e))))
+      (λ e. rw (e, coded-cost true d) (ap (λ (z : ℕ). written (lowThree z)) (omega (arith, thrifty .dfcm f d e))))
+      (λ e. rw (e, coded-cost false f) (ap (λ (z : ℕ). written (lowThree z)) (omega (arith, thrifty .fcm f d e))))
+
+  -- so it costs no more than any code that writes enough for either residual
+  taken-least : (f d c : ℕ) → 8 - max (zeroBytes f) (zeroBytes d) ≤ written c → written (chosen choice f d .code) ≤ written c
+  taken-least f d c h = rw (chosen-cost f d) (least-enough (max (zeroBytes f) (zeroBytes d)) c (omega (arith, zeros-at-most f, zeros-at-most d)) h)
 
   -- For any code and any residual of its width that read as the word, the code taken costs no more.
   pub costs-no-more : (m : Memory) (v : ℕ) (c : Coded) → c .residual < 256 ^ written (c .code) → decodedWord m c ≡ v
@@ -73,3 +81,27 @@ module _ (choice : Choice) (thrifty : Thrifty choice) where
   pub dfcm-free : (m : Memory) (v : ℕ) → dfcmPrediction m ≡ v → written (codedWord choice m v .code) ≡ 0
   unfolding written namedPrediction
   dfcm-free m v e = given-free m v 15 refl e
+
+-- ---- two choices
+
+module _ (choice other : Choice) (thrifty : Thrifty choice) (too : Thrifty other) where
+  -- a word costs one number of bytes by both
+  word-alike : (m : Memory) (v : ℕ) → written (codedWord choice m v .code) ≡ written (codedWord other m v .code)
+  unfolding codedWord
+  word-alike m v = chosen-cost choice thrifty (fcmResidual m v) (dfcmResidual m v) ∙ sym (chosen-cost other too (fcmResidual m v) (dfcmResidual m v))
+
+  -- so do words
+  words-alike : (t : ℕ) (m : Memory) (ws : List ℕ) → length (allResidualBytes (codedWords choice t m ws)) ≡ length (allResidualBytes (codedWords other t m ws))
+  words-alike t m [] = refl
+  words-alike t m (v ∷ vs) =
+      omega (
+        arith,
+        length-residuals (codedWord choice m v) (codedWords choice t (learn t m v) vs),
+        length-residuals (codedWord other m v) (codedWords other t (learn t m v) vs),
+        word-alike m v,
+        words-alike t (learn t m v) vs,
+      )
+
+  -- so their block has one length
+  pub blocks-alike : (t : ℕ) (ws : List ℕ) → length (blockBy choice t ws) ≡ length (blockBy other t ws)
+  blocks-alike t ws = omega (arith, length-block-by choice t ws, length-block-by other t ws, words-alike t (cleared t) ws)

@@ -7,7 +7,7 @@ use lib.ListN.{length, length-append}
 use Rattle.words.proofs.Bytes.{length-low}
 use Rattle.block_rules.specs.Predictors.{Memory, cleared, learn}
 use Rattle.block_rules.specs.Codes.{Choice, dfcmChosen, written, residualBytes, codedWords}
-use Rattle.block_rules.specs.Block.{codes, codeBytes, allResidualBytes, body, arranged, block, residualsAt, worst}
+use Rattle.block_rules.specs.Block.{codes, codeBytes, allResidualBytes, body, arranged, blockBy, block, residualsAt, worst}
 use Rattle.block_rules.specs.declared.Coded.{Coded}
 use Rattle.block_rules.proofs.Codes.{written-small}
 
@@ -50,13 +50,24 @@ module _ (cs : List Coded) where
   pub arranged-at-most : length (arranged cs) ≤ worst (length cs)
   arranged-at-most = omega (arith, length-arranged, residuals-at-most cs)
 
--- ---- the block of words
+-- ---- the block of words, by any choice
+
+module _ (choice : Choice) (t : ℕ) (ws : List ℕ) where
+  pub length-block-by : length (blockBy choice t ws) ≡ residualsAt (length ws) + length (allResidualBytes (codedWords choice t (cleared t) ws))
+  unfolding blockBy
+  length-block-by = rw (← (length-coded choice t (cleared t) ws)) (length-arranged (codedWords choice t (cleared t) ws))
+
+  block-by-at-most : length (blockBy choice t ws) ≤ worst (length ws)
+  unfolding blockBy
+  block-by-at-most = rw (← (length-coded choice t (cleared t) ws)) (arranged-at-most (codedWords choice t (cleared t) ws))
+
+-- ---- by the rule's choice
 
 module _ (t : ℕ) (ws : List ℕ) where
   pub length-block : length (block t ws) ≡ residualsAt (length ws) + length (allResidualBytes (codedWords dfcmChosen t (cleared t) ws))
   unfolding block
-  length-block = rw (← (length-coded dfcmChosen t (cleared t) ws)) (length-arranged (codedWords dfcmChosen t (cleared t) ws))
+  length-block = length-block-by dfcmChosen t ws
 
   pub block-at-most : length (block t ws) ≤ worst (length ws)
   unfolding block
-  block-at-most = rw (← (length-coded dfcmChosen t (cleared t) ws)) (arranged-at-most (codedWords dfcmChosen t (cleared t) ws))
+  block-at-most = block-by-at-most dfcmChosen t ws

@@ -15,8 +15,8 @@ use Rattle.words.proofs.Tests.{either}
 use Rattle.words.proofs.Xor.{xor-back, xor-word}
 use Rattle.words.proofs.Bytes.{number-low}
 use Rattle.block_rules.specs.Predictors.{Memory, cleared, fcmPrediction, dfcmPrediction, difference, learn}
-use Rattle.block_rules.specs.Codes.{Choice, dfcmChosen, fcmResidual, dfcmResidual, written, codedBy, codedWord, codedWords, residualBytes, decodedWord, decodedWords}
-use Rattle.block_rules.specs.Block.{codes, codeBytes, allResidualBytes, body, arranged, block, residualsAt, count, statedLength, halves, countedCodes, lastHalf, residualLength, withResiduals, codedIn, wordsIn}
+use Rattle.block_rules.specs.Codes.{Choice, fcmResidual, dfcmResidual, written, codedBy, codedWord, codedWords, residualBytes, decodedWord, decodedWords}
+use Rattle.block_rules.specs.Block.{codes, codeBytes, allResidualBytes, body, arranged, blockBy, block, residualsAt, count, statedLength, halves, countedCodes, lastHalf, residualLength, withResiduals, codedIn, wordsIn}
 use Rattle.block_rules.specs.Numbers.{fillerStands, blockNumber}
 use Rattle.block_rules.specs.Inside.{PacksAll}
 use Rattle.block_rules.specs.declared.Coded.{Coded}
@@ -198,31 +198,18 @@ module _ (choice : Choice) where
     few-coded : length cs ≤ 65536
     few-coded = rw (length-coded choice t (cleared t) ws) few
 
-    pub chosen-count : count (arranged cs) ≡ length ws
+    pub chosen-count : count (blockBy choice t ws) ≡ length ws
+    unfolding blockBy
     chosen-count = arranged-count cs few-coded (coded-four-bits t ws (cleared t)) ∙ length-coded choice t (cleared t) ws
 
-    pub chosen-whole : blockNumber (arranged cs) ≡ 0
+    pub chosen-whole : blockNumber (blockBy choice t ws) ≡ 0
+    unfolding blockBy
     chosen-whole = arranged-whole cs few-coded (coded-four-bits t ws (cleared t))
 
-    pub chosen-words : Words ws → wordsIn t (arranged cs) ≡ ws
-    unfolding wordsIn
+    pub chosen-words : Words ws → wordsIn t (blockBy choice t ws) ≡ ws
+    unfolding blockBy wordsIn
     chosen-words h =
         rw (arranged-back cs few-coded (coded-four-bits t ws (cleared t)) (coded-fit t ws (cleared t) (wide-cleared t) h)) (words-back t ws (cleared t))
-
--- ---- the block, by the rule's choice
-
-module _ (t : ℕ) (ws : List ℕ) (few : length ws ≤ 65536) where
-  pub block-count : count (block t ws) ≡ length ws
-  unfolding block
-  block-count = chosen-count dfcmChosen t ws few
-
-  pub block-whole : blockNumber (block t ws) ≡ 0
-  unfolding block
-  block-whole = chosen-whole dfcmChosen t ws few
-
-  pub block-words : Words ws → wordsIn t (block t ws) ≡ ws
-  unfolding block
-  block-words h = chosen-words dfcmChosen t ws few h
 
 -- the block stands first in the output
 pub written-block : {t : ℕ} {ws old f' d' out' : List ℕ} {k : ℕ} → PacksAll t ws old f' d' out' k → take k out' ≡ block t ws

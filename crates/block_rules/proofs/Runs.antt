@@ -11,12 +11,12 @@ use borrow.Author.Tests.{eqb-true, lt-leb}
 use Rattle.words.specs.Words.{Words, add64, sub64, shiftedRight}
 use Rattle.words.proofs.Tests.{either}
 use Rattle.block_rules.specs.Predictors.{Memory, cleared, fcmPrediction, dfcmPrediction, difference, nextFcmHash, nextDfcmHash, learn, after}
-use Rattle.block_rules.specs.Codes.{Choice, dfcmChosen, written, codedWord, codedWords}
-use Rattle.block_rules.specs.Block.{allResidualBytes, arranged, block}
+use Rattle.block_rules.specs.Codes.{Choice, dfcmChosen, Thrifty, written, codedWord, codedWords}
+use Rattle.block_rules.specs.Block.{allResidualBytes, blockBy, block}
 use Rattle.block_rules.specs.Room.{Run, wordsFrom, joined, Cut, ofEqualWords, runCost, added, bound, closerCost, closerBound, times}
-use Rattle.block_rules.proofs.Codes.{written-small, Thrifty, rule-thrifty}
+use Rattle.block_rules.proofs.Codes.{written-small, rule-thrifty}
 use Rattle.block_rules.proofs.Learn.{Held, held-cleared, held-learn}
-use Rattle.block_rules.proofs.Lengths.{length-residuals, length-coded, length-arranged}
+use Rattle.block_rules.proofs.Lengths.{length-residuals, length-block-by}
 use Rattle.block_rules.proofs.Cost.{fcm-free, dfcm-free}
 use Rattle.block_rules.proofs.Settle.{update, settles}
 
@@ -190,12 +190,11 @@ module _ (choice : Choice) (thrifty : Thrifty choice) where
       )
 
   -- so the block of words costs no more than any cut into runs says
-  pub chosen-closer : (t : ℕ) (ws : List ℕ) (cut : Cut ws) → Words ws → length (arranged (codedWords choice t (cleared t) ws)) ≤ closerBound t ws cut
+  pub chosen-closer : (t : ℕ) (ws : List ℕ) (cut : Cut ws) → Words ws → length (blockBy choice t ws) ≤ closerBound t ws cut
   chosen-closer t ws cut l =
-      let cs = codedWords choice t (cleared t) ws in
       let s : spent t (cleared t) (joined (cut .runs)) ≤ added (closerCost t) (cut .runs) =
       all-runs t (cut .runs) (cleared t) (held-cleared t) (rw (cut .whole) l) in
-      omega (arith, length-arranged cs, length-coded choice t (cleared t) ws, rw (cut .whole) at s)
+      omega (arith, length-block-by choice t ws, rw (cut .whole) at s)
 
 -- ---- the bounds
 

@@ -4,7 +4,7 @@ use mathlib.Core.List.{List, [], _∷_, _++_}
 use lib.ListN.{length, getD, take, drop}
 use Rattle.words.specs.Bytes.{lowBytes, number, field}
 use Rattle.block_rules.specs.Predictors.{cleared}
-use Rattle.block_rules.specs.Codes.{dfcmChosen, codedWords, residualBytes, written, decodedWords}
+use Rattle.block_rules.specs.Codes.{Choice, dfcmChosen, codedWords, residualBytes, written, decodedWords}
 use Rattle.block_rules.specs.declared.Coded.{Coded}
 
 -- the codes of coded words
@@ -31,9 +31,13 @@ body cs = codeBytes (codes cs) ++ allResidualBytes cs
 unfoldable pub arranged : List Coded → List ℕ
 arranged cs = lowBytes 4 (length cs) ++ lowBytes 4 (8 + length (body cs)) ++ body cs
 
--- the block of the words ws, with tables of 2 ^ t words
+-- the block of the words ws by a choice, with tables of 2 ^ t words
+unfoldable pub blockBy : Choice → ℕ → List ℕ → List ℕ
+blockBy choice t ws = arranged (codedWords choice t (cleared t) ws)
+
+-- the block of the words ws: by the rule's choice
 unfoldable pub block : ℕ → List ℕ → List ℕ
-block t ws = arranged (codedWords dfcmChosen t (cleared t) ws)
+block t ws = blockBy dfcmChosen t ws
 
 -- where the residual bytes of n words start: after the two fields and n/2, rounded up, code bytes
 abbrev pub residualsAt : ℕ → ℕ

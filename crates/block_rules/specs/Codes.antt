@@ -1,7 +1,9 @@
 -- The choice between the two predictions, the code of a word, its residual bytes, and the way back.
-use Prim.Native.Nat.{ℕ, _+_, _%_}
+use mathlib.Core.Path.{_≡_}
+use Prim.Native.Nat.{ℕ, _+_, _%_, _≤_}
 use mathlib.Core.List.{List, [], _∷_}
 use mathlib.Core.Bool.{Bool, true, false, cond}
+use lib.Count.{leadingZeros}
 use lib.Dec.{ltb}
 use lib.ListN.{getD}
 use Rattle.words.specs.Words.{xor, zeroBytes}
@@ -21,9 +23,18 @@ dfcmResidual m v = xor v (dfcmPrediction m)
 abbrev pub Choice : Type 0
 Choice = ℕ → ℕ → Bool
 
--- the rule's choice: dfcm is chosen when its residual has strictly more leading zero bytes; otherwise fcm
+-- the rule's choice: dfcm is chosen when its residual has strictly more leading zero bits; otherwise fcm
 unfoldable pub dfcmChosen : Choice
-dfcmChosen f d = ltb (zeroBytes f) (zeroBytes d)
+dfcmChosen f d = ltb (leadingZeros 64 f) (leadingZeros 64 d)
+
+-- the choice of blocks that were packed before: dfcm was chosen when its residual had strictly more leading zero bytes; otherwise fcm
+unfoldable pub dfcmChosenByBytes : Choice
+dfcmChosenByBytes f d = ltb (zeroBytes f) (zeroBytes d)
+
+-- what a choice must keep so that no block gets longer by it: it never takes the residual with fewer leading zero bytes
+pub record Thrifty (choice : Choice) : Type 0 where
+  pub dfcm : (f d : ℕ) → choice f d ≡ true → zeroBytes f ≤ zeroBytes d
+  pub fcm : (f d : ℕ) → choice f d ≡ false → zeroBytes d ≤ zeroBytes f
 
 -- zero bytes       0   1   2   3   4   5   6   7   8
 -- low three bits   0   1   2   3   3   4   5   6   7

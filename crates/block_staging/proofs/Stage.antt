@@ -6,17 +6,16 @@ use native.Mathlib.Omega.{arith}
 use native.Mathlib.Nat.{add-zero}
 use lib.ListN.{length, set, take, drop, length-append, getD}
 use lib.Seq.{sets, sets-eq, take-append-add, take-append-le, length-take-le}
-use borrow.Author.Tests.{lt-ltb, le-ltb}
-use Rattle.words.specs.Words.{zeroBytes, add64, xor}
+use Rattle.words.specs.Words.{add64, xor}
 use Rattle.words.specs.Bytes.{lowBytes}
-use Rattle.words.proofs.Zeros.{zeros-at-most, zeros-of-zero, zeros-some}
+use Rattle.words.proofs.Zeros.{zeros-of-zero}
 use Rattle.words.proofs.Bytes.{length-low}
 use Rattle.block_rules.specs.Predictors.{Memory, learn, fcmPrediction, dfcmPrediction}
 use Rattle.block_rules.specs.Codes.{dfcmChosen, lowThree, written, codedBy, chosen, codedWord, residualBytes, fcmResidual, dfcmResidual}
 use Rattle.block_rules.specs.Inside.{memory}
 use Rattle.block_rules.specs.declared.Coded.{Coded}
 use Rattle.block_rules.specs.declared.Carry.{Carry}
-use Rattle.block_rules.proofs.Codes.{written-small, chosen-fcm, chosen-dfcm, coded-small}
+use Rattle.block_rules.proofs.Codes.{written-small, zero-by-fcm, zero-by-dfcm, chosen-fcm, chosen-dfcm, coded-small}
 use Rattle.block_rules.proofs.Lengths.{length-residual}
 use Rattle.block_staging.specs.Inside.{StagesChosen, StagesWord, StagesPair}
 use Rattle.block_staging.specs.declared.Staging.{Staging}
@@ -90,18 +89,16 @@ nothing-staged stage staged code c e z =
     }
 
 pub fcm-zero : (stage : List ℕ) (staged f d : ℕ) → f ≡ 0 → StagesChosen stage staged (chosen dfcmChosen f d) stage (record { code = 7; staged = staged })
-unfolding dfcmChosen codedBy lowThree written
+unfolding codedBy lowThree written
 fcm-zero stage staged f d e =
-    let z = zeros-of-zero f e in
     nothing-staged stage staged 7 (chosen dfcmChosen f d)
-    (sym (chosen-fcm dfcmChosen f d (record { code = 7; residual = 0 }) (le-ltb (zeroBytes f) (zeroBytes d) (omega (arith, z, zeros-at-most d))) (rw (z, e)))) refl
+    (sym (chosen-fcm dfcmChosen f d (record { code = 7; residual = 0 }) (zero-by-fcm f d e) (rw (zeros-of-zero f e, e)))) refl
 
 pub dfcm-zero : (stage : List ℕ) (staged f d : ℕ) → f < 2 ^ 64 → (f ≡ 0 → ⊥) → d ≡ 0 → StagesChosen stage staged (chosen dfcmChosen f d) stage (record { code = 15; staged = staged })
-unfolding dfcmChosen codedBy lowThree written
+unfolding codedBy lowThree written
 dfcm-zero stage staged f d h n e =
-    let z = zeros-of-zero d e in
     nothing-staged stage staged 15 (chosen dfcmChosen f d)
-    (sym (chosen-dfcm dfcmChosen f d (record { code = 15; residual = 0 }) (lt-ltb (zeroBytes f) (zeroBytes d) (omega (arith, z, zeros-some f h (omega (arith, n))))) (rw (z, e)))) refl
+    (sym (chosen-dfcm dfcmChosen f d (record { code = 15; residual = 0 }) (zero-by-dfcm f d h (omega (arith, n)) e) (rw (zeros-of-zero d e, e)))) refl
 
 -- ---- a word, and two
 

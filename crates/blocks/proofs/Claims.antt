@@ -7,7 +7,9 @@ use lib.ListN.{length, take}
 use Rattle.words.specs.Words.{Words}
 use Rattle.answers.specs.Answers.{over}
 use Rattle.answers.proofs.Checks.{afterwards-old}
-use Rattle.block_rules.specs.Block.{worst, count, statedLength, residualsAt, countedCodes, lastHalf, residualLength}
+use Rattle.block_rules.specs.Predictors.{cleared, after}
+use Rattle.block_rules.specs.Codes.{Choice, dfcmChosen, dfcmChosenByBytes}
+use Rattle.block_rules.specs.Block.{blockBy, block, worst, count, statedLength, residualsAt, countedCodes, lastHalf, residualLength}
 use Rattle.block_rules.specs.Room.{Cut, bound, closerBound}
 use Rattle.block_rules.specs.Calls.{packed, packsNumber, Packs, checked, Unpacks}
 use Rattle.block_rules.specs.Numbers.{tOf, tablesNumber}
@@ -15,10 +17,10 @@ use Rattle.block_rules.specs.Inside.{Sized, PacksAll, UnpacksAll}
 use Rattle.block_rules.specs.declared.Packed.{Packed}
 use Rattle.block_rules.specs.declared.Checked.{Checked}
 use Rattle.block_rules.specs.declared.Unpacked.{Unpacked}
-use Rattle.block_rules.proofs.Tables.{sized-power, tables-sized, sized-tables}
+use Rattle.block_rules.proofs.Tables.{t-of-power, sized-power, tables-sized, sized-tables}
 use Rattle.block_rules.proofs.Accept.{packable, packable-packs, whole, whole-checks, unpackable, unpackable-unpacks, packs-number, checks-number, packs-all-of, where-number, where-all, where-nothing, where-one-answer, where-forgets, unpacked-of, check-done, filler-needs, filler-has}
 use Rattle.block_rules.proofs.Answered.{pack-one-of, block-one-of, unpack-one-of}
-use Rattle.block_rules.proofs.Round.{block-count, block-whole, block-words, written-block}
+use Rattle.block_rules.proofs.Round.{chosen-count, chosen-whole, chosen-words, written-block}
 use Rattle.block_rules.proofs.Claims.{block-within-bound, block-within-worst, block-within-closer-bound}
 
 -- ---- no second answer
@@ -181,30 +183,41 @@ writtenBlock r out' = take (r .length) out'
 -- Every block that pack writes is accepted by check, with the count of the words.
 pub packed-checks : {words fcm dfcm out f' d' out' : List ℕ} {r : Packed} → Packs words fcm dfcm out r f' d' out' → r .number ≡ 0
     → checked (writtenBlock r out') ≡ record { number = 0; count = length words }
+unfolding block
 packed-checks p e =
-    let w = packs-all-of p e in
     let few = packable _ _ _ _ (sym (packs-number p) ∙ e) .few in
-    rw (written-block w) (sym (check-done _ _ (block-whole _ _ few) (sym (block-count _ _ few))))
+    rw (written-block (packs-all-of p e)) (sym (check-done _ _ (chosen-whole dfcmChosen _ _ few) (sym (chosen-count dfcmChosen _ _ few))))
+
+-- the block of words by any choice, unpacked with tables of the size that it was packed with
+there-and-back : (choice : Choice) (t : ℕ) (words : List ℕ) {fcm dfcm room fcm' dfcm' room' : List ℕ} {r : Unpacked} → Words words → length words ≤ 65536
+    → Unpacks (blockBy choice t words) fcm dfcm room r fcm' dfcm' room' → Sized (length fcm) (length dfcm) → tOf (length fcm) ≡ t → length words ≤ length room
+    → (r ≡ record { number = 0; count = length words }) × (room' ≡ over words room) × (fcm' ≡ after t (cleared t) words .fcm) × (dfcm' ≡ after t (cleared t) words .dfcm)
+there-and-back choice t words h few u sized is l =
+    let back = chosen-words choice t words few h in
+    let n = chosen-count choice t words few in
+    let z = where-number u ∙ unpackable-unpacks _ _ _ _ (record { sized = sized; whole = chosen-whole choice t words few; room = rw n l }) in
+    let g = rw is at (where-all u z) in
+    (unpacked-of _ _ _ z (g .count ∙ n), g .words ∙ rw back, g .fcm ∙ rw back, g .dfcm ∙ rw back)
 
 -- Unpacking what pack wrote, with tables of the same size whatever they hold, gives each word back bit for bit and leaves the packer's tables.
 pub round-trip : {words fcm dfcm out f' d' out' f₂ d₂ room f₂' d₂' room' : List ℕ} {r : Packed} {s : Unpacked}
     → Words words → Packs words fcm dfcm out r f' d' out' → r .number ≡ 0
     → Unpacks (writtenBlock r out') f₂ d₂ room s f₂' d₂' room' → length f₂ ≡ length fcm → length d₂ ≡ length dfcm → length words ≤ length room
     → (s ≡ record { number = 0; count = length words }) × (room' ≡ over words room) × (f₂' ≡ f') × (d₂' ≡ d')
-round-trip {words} {fcm} h p e q lf ld l =
-    let t = tOf (length fcm) in
+unfolding block
+round-trip h p e q lf ld l =
     let w = packs-all-of p e in
     let k = packable _ _ _ _ (sym (packs-number p) ∙ e) in
-    let back = block-words t words (k .few) h in
-    let n = block-count t words (k .few) in
-    let u = rw (written-block w) at q in
-    let z = where-number u ∙ unpackable-unpacks _ _ _ _ (record { sized = rw (lf, ld) (k .sized); whole = block-whole t words (k .few); room = rw n l }) in
-    let g = rw lf at (where-all u z) in (
-      unpacked-of _ _ _ z (g .count ∙ n),
-      g .words ∙ rw back,
-      g .fcm ∙ rw back (sym (w .fcm)),
-      g .dfcm ∙ rw back (sym (w .dfcm)),
-    )
+    let g = there-and-back dfcmChosen _ _ h (k .few) (rw (written-block w) at q) (rw (lf, ld) (k .sized)) (ap tOf lf) l in
+    (g .0, g .1, g .2 ∙ sym (w .fcm), g .3 ∙ sym (w .dfcm))
+
+-- So does unpacking a block that was packed before, with tables of the size that it was packed with. They are left as packing leaves them.
+pub packed-before-unpacks : (words : List ℕ) {fcm dfcm room fcm' dfcm' room' : List ℕ} {r : Unpacked} (k : Tables fcm dfcm)
+    → Words words → length words ≤ 65536 → Unpacks (blockBy dfcmChosenByBytes (k .t) words) fcm dfcm room r fcm' dfcm' room' → length words ≤ length room
+    → (r ≡ record { number = 0; count = length words }) × (room' ≡ over words room)
+    × (fcm' ≡ after (k .t) (cleared (k .t)) words .fcm) × (dfcm' ≡ after (k .t) (cleared (k .t)) words .dfcm)
+packed-before-unpacks words {fcm} {dfcm} k h few u l =
+    there-and-back dfcmChosenByBytes (k .t) words h few u (of-tables fcm dfcm k) (ap tOf (k .fcmLong) ∙ t-of-power (k .t) (k .most)) l
 
 -- ---- how much room a block needs
 

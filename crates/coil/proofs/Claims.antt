@@ -9,10 +9,15 @@ use Rattle.words.specs.Words.{Words}
 use Rattle.words.specs.Bytes.{Bytes}
 use Rattle.answers.specs.Answers.{over}
 use Rattle.answers.proofs.Checks.{afterwards-new}
+use Rattle.block_rules.specs.Codes.{dfcmChosenByBytes}
+use Rattle.block_rules.specs.Block.{blockBy}
+use Rattle.block_rules.specs.Numbers.{blockNumber}
 use Rattle.block_rules.specs.declared.Packed.{Packed}
+use Rattle.block_rules.specs.declared.Checked.{Checked}
 use Rattle.block_rules.specs.declared.Unpacked.{Unpacked}
 use Rattle.block_rules.proofs.Accept.{checks-number}
-use Rattle.blocks.proofs.Claims.{round-trip, pack-numbers, check-numbers, unpack-numbers, pack-one-answer, unpack-one-answer, pack-forgets, unpack-forgets, refused-pack-changes-nothing, refused-unpack-changes-nothing}
+use Rattle.block_rules.proofs.Claims.{packed-before-checks}
+use Rattle.blocks.proofs.Claims.{Tables, round-trip, packed-before-unpacks, pack-numbers, check-numbers, unpack-numbers, pack-one-answer, unpack-one-answer, pack-forgets, unpack-forgets, refused-pack-changes-nothing, refused-unpack-changes-nothing}
 use Rattle.exam_rules.specs.File.{Entry, fileLength, fileBytes}
 use Rattle.exam_rules.specs.Reading.{examIn, fileIn, entryOf}
 use Rattle.exam_rules.specs.Numbers.{findNumber, blockIn}
@@ -23,7 +28,7 @@ use Rattle.exam_rules.specs.declared.Made.{Made}
 use Rattle.exam_rules.proofs.Accept.{ReplaceTakes}
 use Rattle.exam_rules.proofs.Kept.{found-part}
 use Rattle.exam_rules.proofs.Exchanged.{found-old}
-use Rattle.exams.proofs.Claims.{MadeOf, created, grown, exchanged, made-opens, made-fetches, append-fetches, replace-fetches, replace-is-its-parts, replace-is-afresh, cut-is-never-whole, create-numbers, open-numbers, locate-numbers, fetch-numbers, append-numbers, replace-numbers, create-one-answer, fetch-one-answer, append-one-answer, replace-one-answer, fetch-forgets, append-forgets, replace-forgets, refused-create-changes-nothing, refused-locate-tells-nothing, refused-fetch-changes-nothing, refused-append-changes-nothing, refused-replace-changes-nothing, replace-exchanges, replace-keeps-trailer, replace-length, replace-keeps-slots, replace-keeps-blocks, replace-moves-later, replace-puts-block, freed-bytes-are-zero, replace-leaves-the-rest, located-entry, own-exam, located-has, fetch-accepts, append-accepts, replace-accepts}
+use Rattle.exams.proofs.Claims.{MadeOf, created, grown, exchanged, made-opens, made-fetches, packed-before-fetches, MadeBefore, earlier-opens, earlier-fetches, earlier-cut-is-never-whole, append-fetches, replace-fetches, replace-is-its-parts, replace-is-afresh, cut-is-never-whole, create-numbers, open-numbers, locate-numbers, fetch-numbers, append-numbers, replace-numbers, create-one-answer, fetch-one-answer, append-one-answer, replace-one-answer, fetch-forgets, append-forgets, replace-forgets, refused-create-changes-nothing, refused-locate-tells-nothing, refused-fetch-changes-nothing, refused-append-changes-nothing, refused-replace-changes-nothing, replace-exchanges, replace-keeps-trailer, replace-length, replace-keeps-slots, replace-keeps-blocks, replace-moves-later, replace-puts-block, freed-bytes-are-zero, replace-leaves-the-rest, located-entry, own-exam, located-has, fetch-accepts, append-accepts, replace-accepts}
 use Rattle.coil.specs.Calls.{CoilOpens, CoilChecks, CoilPacks, CoilUnpacks, CoilCreates, CoilFinds, CoilFetches, CoilAppends, CoilReplaces}
 
 -- ---- there and back
@@ -96,17 +101,61 @@ coil-made-fetches first m rest k c lf ld enough =
     let a = made-fetches first m rest k c lf ld enough in
     (ap (λ (x : Unpacked). x .number) (a .0), ap (λ (x : Unpacked). x .count) (a .0), a .1)
 
+-- where all blocks that coil_find finds pass coil_check, they are all whole
+all-pass : (c : List ℕ) (l asked : ℕ) → ((slot offset size : ℕ) → CoilFinds c l asked slot 0 offset size → CoilChecks (take size (drop offset c)) 0)
+    → (slot : ℕ) → findNumber c l asked slot ≡ 0 → blockNumber (blockIn c l slot) ≡ 0
+unfolding located
+all-pass c l asked w slot z =
+    let x = entryOf slot (fileIn (take l c)) in
+    let found : CoilFinds c l asked slot 0 (x .offset) (x .size) = rw (afterwards-new _ (x .offset) 0 z, afterwards-new _ (x .size) 0 z, z) refl in
+    rw (found-part c l asked slot z) (sym (checks-number _) ∙ sym (w slot (x .offset) (x .size) found))
+
 -- Cut such a file anywhere, and let a buffer begin with what is left. coil_open may take it. But never do all blocks that coil_find then finds pass
 -- coil_check, and coil_fetch unpacks none that does not pass.
 pub coil-cut-is-never-whole : {exam t : ℕ} {ms : List Map} {b : List ℕ} {l : ℕ} → MadeOf exam t ms b l → (k : ℕ) → k < l → (c : List ℕ) → take k c ≡ take k b
     → (asked : ℕ) → CoilOpens c k asked 0 → ((slot offset size : ℕ) → CoilFinds c k asked slot 0 offset size → CoilChecks (take size (drop offset c)) 0) → ⊥
-unfolding located
-coil-cut-is-never-whole k cut short c same asked o w =
-    cut-is-never-whole k cut short c same asked (sym o)
-    (λ slot z.
-    let x = entryOf slot (fileIn (take cut c)) in
-    let found : CoilFinds c cut asked slot 0 (x .offset) (x .size) = rw (afterwards-new _ (x .offset) 0 z, afterwards-new _ (x .size) 0 z, z) refl in
-    rw (found-part c cut asked slot z) (sym (checks-number _) ∙ sym (w slot (x .offset) (x .size) found)))
+coil-cut-is-never-whole m k short c same asked o w = cut-is-never-whole m k short c same asked (sym o) (all-pass c k asked w)
+
+-- ---- what was packed before, when dfcm was chosen by leading zero bytes
+
+-- coil_check takes a block that was packed before.
+pub coil-packed-before-checks : (t : ℕ) (words : List ℕ) {r : ℕ} → length words ≤ 65536 → CoilChecks (blockBy dfcmChosenByBytes t words) r → r ≡ 0
+coil-packed-before-checks t words few c = c ∙ ap (λ (x : Checked). x .number) (packed-before-checks t words few)
+
+-- coil_unpack gives its words back, with tables of the size that it was packed with.
+pub coil-packed-before-unpacks : (words : List ℕ) {fcm dfcm room f' d' room' : List ℕ} {r n : ℕ} (k : Tables fcm dfcm) → Words words → length words ≤ 65536
+    → CoilUnpacks (blockBy dfcmChosenByBytes (k .t) words) fcm dfcm room r f' d' room' n → length words ≤ length room
+    → (r ≡ 0) × (n ≡ length words) × (room' ≡ over words room)
+coil-packed-before-unpacks words k h few c enough =
+    let a = packed-before-unpacks words k h few c enough in
+    (ap (λ (x : Unpacked). x .number) (a .0), ap (λ (x : Unpacked). x .count) (a .0), a .1)
+
+-- coil_fetch gives them back from any file that opens and has the block in a slot, with tables of the file's 2 ^ t words.
+pub coil-packed-before-fetches : (words : List ℕ) {b : List ℕ} {l exam slot : ℕ} {fcm dfcm room f' d' room' : List ℕ} {r n : ℕ} → Words words → length words ≤ 65536
+    → findNumber b l exam slot ≡ 0 → blockIn b l slot ≡ blockBy dfcmChosenByBytes (fileIn (take l b) .t) words → CoilFetches b l exam slot fcm dfcm room r f' d' room' n
+    → length fcm ≡ 2 ^ fileIn (take l b) .t → length dfcm ≡ 2 ^ fileIn (take l b) .t → length words ≤ length room
+    → (r ≡ 0) × (n ≡ length words) × (room' ≡ over words room)
+coil-packed-before-fetches words h few found is c lf ld enough =
+    let a = packed-before-fetches words h few found is c lf ld enough in
+    (ap (λ (x : Unpacked). x .number) (a .0), ap (λ (x : Unpacked). x .count) (a .0), a .1)
+
+-- coil_open opens a file that was made before for its exam number.
+pub coil-earlier-opens : {exam t : ℕ} {ms : List Map} {b : List ℕ} {l r : ℕ} → MadeBefore exam t ms b l → CoilOpens b l exam r → r ≡ 0
+coil-earlier-opens k c = c ∙ earlier-opens k
+
+-- coil_fetch gives back the words of each of its slots.
+pub coil-earlier-fetches : (first : List Map) (m : Map) (rest : List Map) {exam t : ℕ} {b : List ℕ} {l : ℕ} {fcm dfcm room f' d' room' : List ℕ} {r n : ℕ}
+    → MadeBefore exam t (first ++ m ∷ rest) b l → CoilFetches b l exam (m .slot) fcm dfcm room r f' d' room' n
+    → length fcm ≡ 2 ^ t → length dfcm ≡ 2 ^ t → length (m .words) ≤ length room
+    → (r ≡ 0) × (n ≡ length (m .words)) × (room' ≡ over (m .words) room)
+coil-earlier-fetches first m rest k c lf ld enough =
+    let a = earlier-fetches first m rest k c lf ld enough in
+    (ap (λ (x : Unpacked). x .number) (a .0), ap (λ (x : Unpacked). x .count) (a .0), a .1)
+
+-- Nor are all blocks whole where such a file was cut and opens.
+pub coil-earlier-cut-is-never-whole : {exam t : ℕ} {ms : List Map} {b : List ℕ} {l : ℕ} → MadeBefore exam t ms b l → (k : ℕ) → k < l → (c : List ℕ) → take k c ≡ take k b
+    → (asked : ℕ) → CoilOpens c k asked 0 → ((slot offset size : ℕ) → CoilFinds c k asked slot 0 offset size → CoilChecks (take size (drop offset c)) 0) → ⊥
+coil-earlier-cut-is-never-whole m k short c same asked o w = earlier-cut-is-never-whole m k short c same asked (sym o) (all-pass c k asked w)
 
 -- ---- every number is one of the call's list
 

@@ -5,23 +5,29 @@ use Prim.Native.Nat.{ℕ, _+_, _-_, _≤_, _<_}
 use native.Mathlib.Omega.{arith}
 use native.Mathlib.Nat.{zero-add}
 use lib.Dec.{eqb}
-use lib.ListN.{length, getD, take, drop, length-map}
+use lib.ListN.{length, getD, take, drop, length-map, length-append, length-take}
 use lib.Seq.{take-append-add, drop-append-add, drop-append-seam}
 use borrow.Author.Tests.{eq-eqb}
 use Rattle.words.specs.Words.{Words}
 use Rattle.words.proofs.Each.{Each, none, more, each-map}
 use Rattle.words.proofs.Tests.{either}
-use Rattle.block_rules.specs.Block.{block}
-use Rattle.block_rules.proofs.Round.{block-count, block-whole, block-words}
-use Rattle.exam_rules.specs.File.{Entry, entry, moved, resized, replaced}
+use Rattle.block_rules.specs.Codes.{Choice, dfcmChosen, Thrifty}
+use Rattle.block_rules.specs.Block.{blockBy, block}
+use Rattle.block_rules.proofs.Codes.{rule-thrifty}
+use Rattle.block_rules.proofs.Cost.{blocks-alike}
+use Rattle.block_rules.proofs.Round.{chosen-count, chosen-whole, chosen-words}
+use Rattle.exam_rules.specs.File.{Entry, entry, fileBytes, moved, resized, replaced}
 use Rattle.exam_rules.specs.Reading.{indexOf, entryOf}
+use Rattle.exam_rules.specs.Numbers.{directoryNumber}
 use Rattle.exam_rules.specs.Calls.{Replaces}
-use Rattle.exam_rules.specs.Pieces.{Piece, blocksOf, entriesOf}
-use Rattle.exam_rules.specs.Maps.{Map, pieceOf, fileOf, changed}
+use Rattle.exam_rules.specs.Pieces.{Piece, blocksOf, entriesOf, fileOfPieces}
+use Rattle.exam_rules.specs.Maps.{Map, pieceOf, fileOf, pieceBy, fileBy, changed}
 use Rattle.exam_rules.specs.declared.Made.{Made}
+use Rattle.exam_rules.proofs.Lengths.{length-file}
 use Rattle.exam_rules.proofs.Accept.{find-tells}
+use Rattle.exam_rules.proofs.Back.{Good}
 use Rattle.exam_rules.proofs.Resized.{found-slot}
-use Rattle.exam_rules.proofs.Holds.{Holds, holds-parts, replaced-holds}
+use Rattle.exam_rules.proofs.Holds.{Holds, holds-length, holds-parts, replaced-holds}
 use Rattle.exam_rules.proofs.Exchanged.{found-old}
 use Rattle.exam_rules.proofs.Pieces.{Wholes, HoldsPiece, ReadsAs, slot-index}
 
@@ -30,16 +36,69 @@ pub record Fit (m : Map) : Type 0 where
   pub few : length (m .words) ≤ 65536
   pub wide : Words (m .words)
 
+-- its block by any choice reads as its words
+pub reads-by : (choice : Choice) (t : ℕ) (m : Map) → Fit m → ReadsAs t (blockBy choice t (m .words)) (m .words)
+reads-by choice t m f =
+    record {
+      whole = chosen-whole choice t (m .words) (f .few);
+      many = chosen-count choice t (m .words) (f .few);
+      reads = chosen-words choice t (m .words) (f .few) (f .wide);
+    }
+
 pub map-reads : (t : ℕ) (m : Map) → Fit m → ReadsAs t (block t (m .words)) (m .words)
-map-reads t m f =
-    record { whole = block-whole t (m .words) (f .few); many = block-count t (m .words) (f .few); reads = block-words t (m .words) (f .few) (f .wide) }
+unfolding block
+map-reads t m f = reads-by dfcmChosen t m f
 
 pub maps-whole : (t : ℕ) {ms : List Map} → Each Fit ms → Wholes (map (pieceOf t) ms)
 maps-whole t f = each-map (pieceOf t) (λ m h. map-reads t m h .whole) f
 
--- a file of maps has the piece of each
-pub maps-piece : (exam t : ℕ) (first : List Map) (m : Map) (rest : List Map) {b : List ℕ} {l : ℕ} → Holds b l (fileOf exam t (first ++ m ∷ rest)) → HoldsPiece b l exam t (pieceOf t m)
-maps-piece exam t first m rest h = record { first = map (pieceOf t) first; rest = map (pieceOf t) rest; holds = rw map-append at h }
+-- a file of maps has the piece of each, however a map becomes a piece
+pub maps-piece : (piece : Map → Piece) (exam t : ℕ) (first : List Map) (m : Map) (rest : List Map) {b : List ℕ} {l : ℕ} → Holds b l (fileOfPieces exam t (map piece (first ++ m ∷ rest)))
+    → HoldsPiece b l exam t (piece m)
+maps-piece piece exam t first m rest h = record { first = map piece first; rest = map piece rest; holds = rw map-append at h }
+
+-- ---- maps that were packed before
+
+pub maps-whole-by : (choice : Map → Choice) (t : ℕ) {ms : List Map} → Each Fit ms → Wholes (map (pieceBy choice t) ms)
+maps-whole-by choice t f = each-map (pieceBy choice t) (λ m h. reads-by (choice m) t m h .whole) f
+
+module _ (choice : Map → Choice) (thrifty : (m : Map) → Thrifty (choice m)) (t : ℕ) where
+  as-long : (m : Map) → length (blockBy (choice m) t (m .words)) ≡ length (block t (m .words))
+  unfolding block
+  as-long m = blocks-alike (choice m) dfcmChosen (thrifty m) rule-thrifty t (m .words)
+
+  entries-alike : (at : ℕ) (ms : List Map) → entriesOf at (map (pieceBy choice t) ms) ≡ entriesOf at (map (pieceOf t) ms)
+  entries-alike at [] = refl
+  entries-alike at (m ∷ ms) = rw (as-long m, entries-alike (at + length (block t (m .words))) ms)
+
+  body-alike : (ms : List Map) → length (blocksOf (map (pieceBy choice t) ms)) ≡ length (blocksOf (map (pieceOf t) ms))
+  body-alike [] = refl
+  body-alike (m ∷ ms) = simp length-append (omega (arith, as-long m, body-alike ms))
+
+  good-alike : (exam : ℕ) (ms : List Map) → Good (fileOf exam t ms) → Good (fileBy choice exam t ms)
+  unfolding directoryNumber
+  good-alike exam ms g =
+      let es = entries-alike 0 ms in
+      let body = body-alike ms in
+      record {
+        edition = g .edition;
+        t = g .t;
+        named = g .named;
+        exam = g .exam;
+        few = rw es (g .few);
+        size = rw (es, body) (g .size);
+        smalls = rw es (g .smalls);
+        directory = rw (es, body) (g .directory);
+      }
+
+  -- where the rule makes a file of maps, a buffer with the file of these holds it
+  pub before-holds : (exam : ℕ) (ms : List Map) {b c : List ℕ} {l : ℕ} → Holds b l (fileOf exam t ms) → take l c ≡ fileBytes (fileBy choice exam t ms) → Holds c l (fileBy choice exam t ms)
+  before-holds exam ms {b} {c} {l} h e =
+      record {
+        within = omega (arith, ap length e, length-file (fileBy choice exam t ms), holds-length h, length-take l c, ap length (entries-alike 0 ms), body-alike ms);
+        bytes = e;
+        good = good-alike exam ms (h .good);
+      }
 
 -- ---- the changed list
 
@@ -120,7 +179,7 @@ pub changed-at : (exam t : ℕ) (first : List Map) (m : Map) (rest : List Map) (
     → changed (m .slot) words (first ++ m ∷ rest) ≡ first ++ record { slot = m .slot; words = words } ∷ rest
 unfolding maps-piece
 changed-at exam t first m rest words h =
-    changed-one t 0 first m rest words (rw map-append (slot-index (maps-piece exam t first m rest h) ∙ length-map first (pieceOf t)))
+    changed-one t 0 first m rest words (rw map-append (slot-index (maps-piece (pieceOf t) exam t first m rest h) ∙ length-map first (pieceOf t)))
 
 -- an accepted replace in the file of maps leaves the file of the changed list
 pub changed-maps : (exam t : ℕ) (ms : List Map) {b : List ℕ} {l slot : ℕ} {words fcm dfcm bench b' fcm' dfcm' bench' : List ℕ} {r : Made} → Holds b l (fileOf exam t ms)

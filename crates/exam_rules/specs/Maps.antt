@@ -3,7 +3,8 @@ use Prim.Native.Nat.{ℕ}
 use mathlib.Core.List.{List, [], _∷_, map}
 use mathlib.Core.Bool.{cond}
 use lib.Dec.{eqb}
-use Rattle.block_rules.specs.Block.{block}
+use Rattle.block_rules.specs.Codes.{Choice}
+use Rattle.block_rules.specs.Block.{blockBy, block}
 use Rattle.exam_rules.specs.File.{File}
 use Rattle.exam_rules.specs.Pieces.{Piece, fileOfPieces}
 
@@ -19,6 +20,13 @@ pieceOf t m = record { slot = m .slot; block = block t (m .words) }
 -- the file of maps: the file of their pieces
 abbrev pub fileOf : ℕ → ℕ → List Map → File
 fileOf exam t ms = fileOfPieces exam t (map (pieceOf t) ms)
+
+-- the same, where each map was packed by a choice of its own: files of maps that were packed before, all of them or some
+abbrev pub pieceBy : (Map → Choice) → ℕ → Map → Piece
+pieceBy choice t m = record { slot = m .slot; block = blockBy (choice m) t (m .words) }
+
+abbrev pub fileBy : (Map → Choice) → ℕ → ℕ → List Map → File
+fileBy choice exam t ms = fileOfPieces exam t (map (pieceBy choice t) ms)
 
 -- the changed list of maps: other words for the map of a slot
 abbrev pub changed : ℕ → List ℕ → List Map → List Map

@@ -10,14 +10,15 @@ use Rattle.words.specs.Bytes.{Bytes}
 use Rattle.words.proofs.Each.{Each, none, each-more, each-at}
 use Rattle.answers.specs.Answers.{over}
 use Rattle.answers.proofs.Checks.{afterwards-new, afterwards-old}
-use Rattle.block_rules.specs.Block.{block}
+use Rattle.block_rules.specs.Codes.{Choice, dfcmChosenByBytes, Thrifty}
+use Rattle.block_rules.specs.Block.{blockBy, block}
 use Rattle.block_rules.specs.Numbers.{blockNumber}
 use Rattle.block_rules.specs.declared.Unpacked.{Unpacked}
 use Rattle.exam_rules.specs.File.{entry, File, fileLength, fileBytes, appended, replaced}
 use Rattle.exam_rules.specs.Reading.{tIn, examIn, distanceIn, entriesIn, lengthIn, fileIn, entryOf}
 use Rattle.exam_rules.specs.Numbers.{openInNumber, findNumber, blockIn}
 use Rattle.exam_rules.specs.Calls.{trailerOf, opened, openedNumber, openedT, openedEntries, openedStart, Finds, located, Fetches, Creates, appendsNumber, Appends, replacesNumber, Replaces}
-use Rattle.exam_rules.specs.Maps.{Map, pieceOf, fileOf, changed}
+use Rattle.exam_rules.specs.Maps.{Map, pieceOf, fileOf, pieceBy, fileBy, changed}
 use Rattle.exam_rules.specs.declared.Located.{Located}
 use Rattle.exam_rules.specs.declared.Made.{Made}
 use Rattle.exam_rules.specs.declared.Opened.{Opened}
@@ -29,7 +30,7 @@ use Rattle.exam_rules.proofs.Accept.{OpenTakes, open-takes, takes-open, FindTak
 use Rattle.exam_rules.proofs.Answered.{open-in-one-of, find-one-of, fetch-one-of, create-one-of, append-one-of, replace-one-of}
 use Rattle.exam_rules.proofs.Holds.{Holds, holds-length, holds-parts, holds-opens, copied-holds}
 use Rattle.exam_rules.proofs.Pieces.{length-pieces, created-pieces, appended-pieces, block-fetched, piece-found, piece-block, piece-t}
-use Rattle.exam_rules.proofs.Maps.{Fit, map-reads, maps-whole, maps-piece, changed-at, changed-maps, changed-fit}
+use Rattle.exam_rules.proofs.Maps.{Fit, reads-by, map-reads, maps-whole, maps-piece, maps-whole-by, before-holds, changed-at, changed-maps, changed-fit}
 use Rattle.exam_rules.proofs.Cut.{never-all-whole}
 use Rattle.exam_rules.proofs.Kept.{found-long, found-size, found-within, found-part, more-holds, more-opens, slot-kept, slot-new}
 use Rattle.exam_rules.proofs.Resized.{length-resized}
@@ -256,7 +257,7 @@ made-fit (copied h e) = made-fit h
 pub made-finds : (first : List Map) (m : Map) (rest : List Map) {exam t : ℕ} {b : List ℕ} {l : ℕ} {part : List ℕ} {number : ℕ}
     → MadeOf exam t (first ++ m ∷ rest) b l → Finds b l exam (m .slot) part number → (number ≡ 0) × (part ≡ block t (m .words))
 made-finds first m rest {exam} {t} k c =
-    let h = maps-piece exam t first m rest (made-holds k) in
+    let h = maps-piece (pieceOf t) exam t first m rest (made-holds k) in
     (c .numberLeft ∙ piece-found h, c .answer ∙ afterwards-new _ _ [] (piece-found h) ∙ piece-block h)
 
 -- Fetching a slot of such a file gives back exactly the words that were put there last: with tables of 2 ^ t words, whatever they hold, and whatever
@@ -266,7 +267,7 @@ pub made-fetches : (first : List Map) (m : Map) (rest : List Map) {exam t : ℕ}
     → length fcm ≡ 2 ^ t → length dfcm ≡ 2 ^ t → length (m .words) ≤ length room
     → (r ≡ record { number = 0; count = length (m .words) }) × (room' ≡ over (m .words) room)
 made-fetches first m rest {exam} {t} k c lf ld enough =
-    let h = maps-piece exam t first m rest (made-holds k) in
+    let h = maps-piece (pieceOf t) exam t first m rest (made-holds k) in
     block-fetched t (block t (m .words)) (piece-found h) (piece-block h) (piece-t h) (map-reads t m (each-at first m rest (made-fit k))) c lf ld enough
 
 -- Where the words of a map of such a file are replaced, it is made of the changed list: every other map is the one it was, in its place.
@@ -287,6 +288,50 @@ pub replace-is-afresh : (first : List Map) (m : Map) (rest : List Map) {exam t :
     → MadeOf exam t (first ++ m ∷ rest) b l → Words words → Replaces b l exam (m .slot) words fcm dfcm bench r b' fcm' dfcm' bench' → r .number ≡ 0
     → MadeOf exam t (first ++ record { slot = m .slot; words = words } ∷ rest) c k → (r .length ≡ k) × (take (r .length) b' ≡ take k c)
 replace-is-afresh first m rest h w q e afresh = made-alike (made-replaces first m rest h w q e) afresh
+
+-- ---- files that were packed before, when dfcm was chosen by leading zero bytes
+
+-- A block that was packed before is fetched as its words: from any file that opens and has it in a slot, with tables of the file's 2 ^ t words.
+pub packed-before-fetches : (words : List ℕ) {b : List ℕ} {l exam slot : ℕ} {fcm dfcm room fcm' dfcm' room' : List ℕ} {r : Unpacked} → Words words → length words ≤ 65536
+    → findNumber b l exam slot ≡ 0 → blockIn b l slot ≡ blockBy dfcmChosenByBytes (fileIn (take l b) .t) words → Fetches b l exam slot fcm dfcm room r fcm' dfcm' room'
+    → length fcm ≡ 2 ^ fileIn (take l b) .t → length dfcm ≡ 2 ^ fileIn (take l b) .t → length words ≤ length room
+    → (r ≡ record { number = 0; count = length words }) × (room' ≡ over words room)
+packed-before-fetches words {b} {l} {slot = slot} h few found is c lf ld enough =
+    let t = fileIn (take l b) .t in
+    let reads = reads-by dfcmChosenByBytes t (record { slot = slot; words = words }) (record { few = few; wide = h }) in
+    block-fetched t (blockBy dfcmChosenByBytes t words) found is refl reads c lf ld enough
+
+-- The first l bytes of the buffer b are a file of maps that was made before, all of it or a part: each map was packed by the choice of its time. Create, appends
+-- and replaces make a file of the same maps.
+pub record MadeBefore (exam t : ℕ) (ms : List Map) (b : List ℕ) (l : ℕ) : Type 0 where
+  pub choice : Map → Choice
+  pub thrifty : (m : Map) → Thrifty (choice m)
+  pub bytes : take l b ≡ fileBytes (fileBy choice exam t ms)
+  pub buffer : List ℕ
+  pub made : MadeOf exam t ms buffer l
+
+earlier-holds : {exam t : ℕ} {ms : List Map} {b : List ℕ} {l : ℕ} (k : MadeBefore exam t ms b l) → Holds b l (fileBy (k .choice) exam t ms)
+earlier-holds {exam} {t} {ms} k = before-holds (k .choice) (k .thrifty) t exam ms (made-holds (k .made)) (k .bytes)
+
+-- Such a file opens for its exam number.
+pub earlier-opens : {exam t : ℕ} {ms : List Map} {b : List ℕ} {l : ℕ} → MadeBefore exam t ms b l → openedNumber (opened b l exam) ≡ 0
+earlier-opens {exam} {b = b} {l} k = opened-number b l exam ∙ holds-opens (earlier-holds k)
+
+-- Fetching a slot of such a file gives back exactly the words that were put there, with tables of 2 ^ t words.
+pub earlier-fetches : (first : List Map) (m : Map) (rest : List Map) {exam t : ℕ} {b : List ℕ} {l : ℕ} {fcm dfcm room fcm' dfcm' room' : List ℕ} {r : Unpacked}
+    → MadeBefore exam t (first ++ m ∷ rest) b l → Fetches b l exam (m .slot) fcm dfcm room r fcm' dfcm' room'
+    → length fcm ≡ 2 ^ t → length dfcm ≡ 2 ^ t → length (m .words) ≤ length room
+    → (r ≡ record { number = 0; count = length (m .words) }) × (room' ≡ over (m .words) room)
+earlier-fetches first m rest {exam} {t} k c lf ld enough =
+    let h = maps-piece (pieceBy (k .choice) t) exam t first m rest (earlier-holds k) in
+    let reads = reads-by (k .choice m) t m (each-at first m rest (made-fit (k .made))) in
+    block-fetched t (blockBy (k .choice m) t (m .words)) (piece-found h) (piece-block h) (piece-t h) reads c lf ld enough
+
+-- Cut such a file anywhere: where what is left opens, the blocks of its slots are never all whole.
+pub earlier-cut-is-never-whole : {exam t : ℕ} {ms : List Map} {b : List ℕ} {l : ℕ} → MadeBefore exam t ms b l → (k : ℕ) → k < l → (c : List ℕ) → take k c ≡ take k b
+    → (asked : ℕ) → openedNumber (opened c k asked) ≡ 0 → ((slot : ℕ) → findNumber c k asked slot ≡ 0 → blockNumber (blockIn c k slot) ≡ 0) → ⊥
+earlier-cut-is-never-whole {exam} {t} {ms} m k short c same asked e w =
+    never-all-whole exam t (map (pieceBy (m .choice) t) ms) (earlier-holds m) (maps-whole-by (m .choice) t (made-fit (m .made))) k asked short c same (sym (opened-number c k asked) ∙ e) w
 
 -- ---- a refusal leaves everything as it was
 

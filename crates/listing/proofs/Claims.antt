@@ -13,7 +13,7 @@ use Rattle.answers.proofs.Checks.{afterwards-new, afterwards-old, told-within}
 use Rattle.answers.proofs.OneOf.{one-of-more, no-check-one-of, verdict-one-of, check-one-of}
 use Rattle.block_rules.specs.Predictors.{cleared, fcmPrediction, dfcmPrediction, difference, nextFcmHash, nextDfcmHash, learn}
 use Rattle.block_rules.specs.Codes.{fcmResidual, dfcmResidual, dfcmChosen, lowThree, written, codedBy, chosen, codedWord, residualBytes}
-use Rattle.block_rules.specs.Block.{arranged, block, body, countedCodes, lastHalf}
+use Rattle.block_rules.specs.Block.{arranged, blockBy, block, body, countedCodes, lastHalf}
 use Rattle.block_rules.specs.Calls.{checked}
 use Rattle.block_rules.specs.Numbers.{fillerStands, blockNumber}
 use Rattle.block_rules.proofs.Accept.{checks-number}
@@ -44,7 +44,7 @@ workedFile =
 
 -- It is the file that create and append make.
 pub worked-file : fileBytes (appended (empty 7 10) 3 (block 10 (0 ∷ []))) ≡ workedFile
-unfolding fileBytes entryBytes trailerBytes block arranged body residualBytes codedWord chosen codedBy written lowThree dfcmChosen fcmResidual dfcmResidual learn nextFcmHash nextDfcmHash difference fcmPrediction dfcmPrediction cleared add64 sub64 shiftedLeft shiftedRight lowBits xor zeroBytes leadingZeros
+unfolding fileBytes entryBytes trailerBytes block blockBy arranged body residualBytes codedWord chosen codedBy written lowThree dfcmChosen fcmResidual dfcmResidual learn nextFcmHash nextDfcmHash difference fcmPrediction dfcmPrediction cleared add64 sub64 shiftedLeft shiftedRight lowBits xor zeroBytes leadingZeros
 worked-file = refl
 
 -- It lists as the three lines worked by hand.

@@ -2,7 +2,7 @@
 use mathlib.Core.Path.{_≡_, refl, sym, ap, ap₂, _∙_}
 use Prim.Native.Nat.{ℕ, zero, suc, _+_, _*_, _/_, _%_, _^_, _<_}
 use native.Mathlib.Omega.{arith}
-use native.Mathlib.Nat.{div-add-mod'}
+use native.Mathlib.Nat.{div-add-mod', div-eq-of-lt, lt-div-mul-add, one-le-pow}
 use lib.Arith.{bin-ind}
 use lib.Bits.{bitXor, differ, xor-step, xor-self, xor-shr, xor-mod, xor-lt, xor-zero-l}
 use Rattle.words.specs.Words.{xor}
@@ -41,3 +41,16 @@ xor-none p = xor-zero-l p
 pub xor-word : (a b : ℕ) → a < 2 ^ 64 → b < 2 ^ 64 → xor a b < 2 ^ 64
 unfolding xor
 xor-word a b h l = xor-lt 64 a b h l
+
+-- ---- the bits above the low n
+
+-- they are the same where the xor has none there
+pub same-above : (n v p : ℕ) → xor v p < 2 ^ n → v / 2 ^ n ≡ p / 2 ^ n
+unfolding xor
+same-above n v p h = xor-of (v / 2 ^ n) (p / 2 ^ n) 0 (sym (xor-shr v p n) ∙ div-eq-of-lt h) ∙ xor-none (p / 2 ^ n)
+
+pub none-above : (n v p : ℕ) → v / 2 ^ n ≡ p / 2 ^ n → xor v p < 2 ^ n
+unfolding xor
+none-above n v p e =
+    let none : bitXor v p / 2 ^ n ≡ 0 = xor-shr v p n ∙ ap (λ (k : ℕ). bitXor k (p / 2 ^ n)) e ∙ xor-self (p / 2 ^ n) in
+    omega (arith, rw none at (lt-div-mul-add {a = bitXor v p} {b = 2 ^ n} (one-le-pow n 2 (omega arith))))

@@ -1,10 +1,27 @@
+use mathlib.Core.Path.{_∙_}
+use mathlib.Core.Logic.{⊎-elim}
 use native.Mathlib.Omega.{arith}
 use borrow.Author.Needs.{needs}
-use Rattle.words.proofs.Zeros.{zeros-some}
+use Rattle.words.proofs.zero_bytes.Reads as zero-bytes-reads
 use Rattle.block_rules.proofs.Codes.{low-three-small}
-use Rattle.block_choice.proofs.Choosing.{chosen-with-more, chosen-otherwise}
+use Rattle.block_choice.proofs.Choosing.{Taken, taken-dfcm, taken-fcm}
+use Rattle.block_choice.proofs.choice.low_three.Reads as low-three-reads
+use Rattle.block_choice.proofs.choice.chosen.Reads as reads
+use Rattle.block_choice.proofs.choice.chosen.Lts as lts
 use Rattle.block_choice.proofs.choice.chosen.Statement.{statement}
 use Rattle.block_choice.proofs.choice.chosen.Tie as tie
+
+-- where the two ways meet
+abbrev Met : Type 0
+Met = lts.Joined1 (zero-bytes-reads.Asked, zero-bytes-reads.Learnt, low-three-reads.Asked, low-three-reads.Learnt) reads.Pre reads.Post
+
+taken : (c : Met) → Taken (c .before .before .args .by-fcm) (c .before .before .args .by-dfcm) (c .if1 .top) (c .if1 .zeros) (c .if1 .residual)
+taken c =
+    let entry = c .before .before in
+    ⊎-elim
+    (λ w. taken-dfcm (omega arith) (entry .pre .1) (omega (arith, w .0 .taken)) (w .2) (w .3) (w .4 ∙ w .1 .ensures))
+    (λ w. taken-fcm (omega arith) (entry .pre .0) (omega (arith, w .0 .left)) (w .1) (w .2) (w .3 ∙ c .before .zero-bytes .ensures))
+    (c .if1 .came)
 
 zero-bytes-requires : tie.Need-zero-bytes-requires
 zero-bytes-requires c κs = search needs
@@ -13,35 +30,20 @@ zero-bytes-requires-2 : tie.Need-zero-bytes-requires-2
 zero-bytes-requires-2 c κs = search needs
 
 low-three-requires : tie.Need-low-three-requires
-low-three-requires c κs =
-    let at-dfcm = c .before in
-    let entry = at-dfcm .before .before in
-    omega (arith, at-dfcm .zero-bytes2 .ensures, zeros-some (entry .args .by-dfcm) (omega arith) (entry .pre .1))
+low-three-requires c κs = taken c .some
 
-add-t8 : tie.Need-add-t8
-add-t8 c =
-    let at-dfcm = c .before .before in
-    let entry = at-dfcm .before .before in
-    let zeros = at-dfcm .zero-bytes2 .result in
-    omega (arith, c .low-three .ensures, low-three-small zeros (omega (arith, at-dfcm .zero-bytes2 .ensures, zeros-some (entry .args .by-dfcm) (omega arith) (entry .pre .1))))
-
-low-three-requires-2 : tie.Need-low-three-requires-2
-low-three-requires-2 c κs =
-    let at-fcm = c .before .before in
-    let entry = at-fcm .before in
-    omega (arith, at-fcm .zero-bytes .ensures, zeros-some (entry .args .by-fcm) (omega arith) (entry .pre .0))
+add-code : tie.Need-add-code
+add-code c =
+    let at-low-three = c .before in
+    let t = taken (at-low-three .before) in
+    omega (arith, t .bit, at-low-three .low-three .ensures, low-three-small (at-low-three .before .if1 .zeros) (omega (arith, t .some)))
 
 returns : tie.Need-returns
 returns c =
-    let at-dfcm = c .before .before in
-    chosen-with-more _ _ _ _ _ (at-dfcm .before .zero-bytes .ensures) (at-dfcm .zero-bytes2 .ensures) (omega (arith, c .before .if1 .taken)) (c .low-three .ensures)
-
-returns-2 : tie.Need-returns-2
-returns-2 c =
-    let at-dfcm = c .before .before in
-    chosen-otherwise _ _ _ _ _ (at-dfcm .before .zero-bytes .ensures) (at-dfcm .zero-bytes2 .ensures) (omega (arith, c .before .if1 .left)) (c .low-three2 .ensures)
+    let at-low-three = c .before in
+    rw (at-low-three .low-three .ensures) (taken (at-low-three .before) .coded)
 
 pub chosen-spec : {M : Type 1} → statement M
 chosen-spec =
     tie.close
-    (tie.spec zero-bytes-requires zero-bytes-requires-2 low-three-requires add-t8 low-three-requires-2 returns returns-2)
+    (tie.spec zero-bytes-requires zero-bytes-requires-2 low-three-requires add-code returns)
