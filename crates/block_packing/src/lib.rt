@@ -81,15 +81,7 @@ fn put_words(
     };
     let mut k: usize = 0;
     while k < n / 2 {
-        let pair = block_staging::stage_pair(
-            fcm,
-            dfcm,
-            stage,
-            carry,
-            staged,
-            words[2 * k],
-            words[2 * k + 1],
-        );
+        let pair = block_staging::stage_pair(fcm, dfcm, stage, carry, staged, words, 2 * k);
         out[8 + k] = pair.codes;
         let place = block_staging::make_room(
             out,

@@ -103,10 +103,10 @@ dfcm-zero stage staged f d h n e =
 -- ---- a word, and two
 
 -- the word's residuals are those of the predictions that the tables gave
-pub coded-word : (f d : List ℕ) (c : Carry) (v xf p xd : ℕ) → xf ≡ xor v (getD f (c .fcm) 0) → p ≡ add64 (getD d (c .dfcm) 0) (c .last) → xd ≡ xor v p
-    → chosen dfcmChosen xf xd ≡ codedWord dfcmChosen (memory f d c) v
+pub coded-word : (f d : List ℕ) (c : Carry) (v p q : ℕ) → p ≡ getD f (c .fcm) 0 → q ≡ add64 (getD d (c .dfcm) 0) (c .last)
+    → chosen dfcmChosen (xor v p) (xor v q) ≡ codedWord dfcmChosen (memory f d c) v
 unfolding codedWord fcmResidual dfcmResidual fcmPrediction dfcmPrediction
-coded-word f d c v xf p xd e1 e2 e3 = cc
+coded-word f d c v p q e g = cc
 
 pub word-staged : (t : ℕ) (m : Memory) (v : ℕ) (stage : List ℕ) (staged : ℕ) (f d stage' : List ℕ) (c : Carry) (r : Staging) (x : Coded)
     → x ≡ codedWord dfcmChosen m v → memory f d c ≡ learn t m v → StagesChosen stage staged x stage' r

@@ -2,8 +2,9 @@
 // there to the output.
 ghost use mathlib.Core.Path.{_≡_};
 ghost use Prim.Native.Nat.{_+_, _≤_};
-ghost use lib.ListN.{length, take};
+ghost use lib.ListN.{length, getD, take};
 ghost use lib.Seq.{sets};
+ghost use Rattle.words.specs.Words.{xor};
 ghost use Rattle.words.specs.Bytes.{lowBytes};
 ghost use Rattle.block_rules.specs.Codes.{dfcmChosen, chosen};
 ghost use Rattle.block_rules.specs.Numbers.{tOf};
@@ -53,19 +54,20 @@ fn store_eight(stage: &mut [u8], at: usize, residual: u64)
     stage[at + 7] = (residual / 72057594037927936 % 256) as u8;
 }
 
-// Stages the residual bytes of the chosen residual behind those that are there. A residual of 0 has no
-// byte, and most words of a map are predicted, so it leaves early.
-fn stage_chosen(stage: &mut [u8], staged: usize, by_fcm: u64, by_dfcm: u64) -> Staging
+// Stages the residual bytes of a word behind those that are there, given what fcm and dfcm predict. A
+// word that is predicted has no byte, and most words of a map are: so that is asked first, and nothing
+// is worked out for it.
+fn stage_chosen(stage: &mut [u8], staged: usize, word: u64, fcm: u64, dfcm: u64) -> Staging
     requires { ⌜ StageRoom (now stage) staged 8 ⌝ }
-    ensures { λ r. ⌜ StagesChosen (now (stage .entry)) staged (chosen dfcmChosen «by_fcm» «by_dfcm») (now (stage .exit)) r ⌝ }
+    ensures { λ r. ⌜ StagesChosen (now (stage .entry)) staged (chosen dfcmChosen (xor word fcm) (xor word dfcm)) (now (stage .exit)) r ⌝ }
 {
-    if by_fcm == 0 {
+    if word == fcm {
         return Staging { code: 7, staged };
     }
-    if by_dfcm == 0 {
+    if word == dfcm {
         return Staging { code: 15, staged };
     }
-    let coded = block_choice::chosen(by_fcm, by_dfcm);
+    let coded = block_choice::chosen(word ^ fcm, word ^ dfcm);
     let code = coded.code;
     store_eight(stage, staged, coded.residual);
     Staging {
@@ -88,10 +90,10 @@ pub fn stage_word(
 {
     let fcm_hash = carry.fcm;
     let dfcm_hash = carry.dfcm;
-    let by_fcm = word ^ fcm[fcm_hash];
-    let by_dfcm = word ^ std::num::wrapping_add_u64(dfcm[dfcm_hash], carry.last);
+    let by_fcm = fcm[fcm_hash];
+    let by_dfcm = std::num::wrapping_add_u64(dfcm[dfcm_hash], carry.last);
     let next = block_choice::learn(fcm, dfcm, carry, word);
-    let done = stage_chosen(stage, staged, by_fcm, by_dfcm);
+    let done = stage_chosen(stage, staged, word, by_fcm, by_dfcm);
     Step {
         carry: next,
         code: done.code,
@@ -99,22 +101,23 @@ pub fn stage_word(
     }
 }
 
-// The same for two words.
+// The same for two words, of which the first stands at a place. The second is read when its turn has
+// come: no register is free to keep it.
 pub fn stage_pair(
     fcm: &mut [u64],
     dfcm: &mut [u64],
     stage: &mut [u8],
     carry: Carry,
     staged: usize,
-    first: u64,
-    second: u64,
+    words: &[u64],
+    at: usize,
 ) -> Pair
-    requires { ⌜ StageRoom (now stage) staged 16 × Ready (now fcm) (now dfcm) carry ⌝ }
-    ensures { λ r. ⌜ StagesPair (tOf (length (now (fcm .entry)))) (memory (now (fcm .entry)) (now (dfcm .entry)) carry) first second (now (stage .entry)) staged (now (fcm .exit)) (now (dfcm .exit)) (now (stage .exit)) r ⌝ }
+    requires { ⌜ StageRoom (now stage) staged 16 × Ready (now fcm) (now dfcm) carry × (at + 2 ≤ length (now words)) ⌝ }
+    ensures { λ r. ⌜ StagesPair (tOf (length (now (fcm .entry)))) (memory (now (fcm .entry)) (now (dfcm .entry)) carry) (getD (now (words .entry)) at 0) (getD (now (words .entry)) (at + 1) 0) (now (stage .entry)) staged (now (fcm .exit)) (now (dfcm .exit)) (now (stage .exit)) r ⌝ }
 {
-    let one = stage_word(fcm, dfcm, stage, carry, staged, first);
+    let one = stage_word(fcm, dfcm, stage, carry, staged, words[at]);
     let between = one.carry;
-    let two = stage_word(fcm, dfcm, stage, between, one.staged, second);
+    let two = stage_word(fcm, dfcm, stage, between, one.staged, words[at + 1]);
     let next = two.carry;
     Pair {
         carry: next,

@@ -38,6 +38,14 @@ pub xor-none : (p : ℕ) → xor 0 p ≡ p
 unfolding xor
 xor-none p = xor-zero-l p
 
+-- it is 0 just where both are the same
+pub xor-same : (v p : ℕ) → v ≡ p → xor v p ≡ 0
+unfolding xor
+xor-same v p e = rw e (xor-self p)
+
+pub xor-differs : (v p : ℕ) → (v ≡ p → ⊥) → xor v p ≡ 0 → ⊥
+xor-differs v p h e = h (xor-of v p 0 e ∙ xor-none p)
+
 pub xor-word : (a b : ℕ) → a < 2 ^ 64 → b < 2 ^ 64 → xor a b < 2 ^ 64
 unfolding xor
 xor-word a b h l = xor-lt 64 a b h l

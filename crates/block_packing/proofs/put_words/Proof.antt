@@ -27,36 +27,19 @@ loop-holds c =
 mul-stage-pair : tie.Need-mul-stage-pair Inv-loop μ-loop
 mul-stage-pair c = search needs
 
-mul-stage-pair-2 : tie.Need-mul-stage-pair-2 Inv-loop μ-loop
-mul-stage-pair-2 c = search needs
-
-shared-slice-read-stage-pair : tie.Need-shared-slice-read-stage-pair Inv-loop μ-loop
-shared-slice-read-stage-pair c = search needs
-
-mul-stage-pair-3 : tie.Need-mul-stage-pair-3 Inv-loop μ-loop
-mul-stage-pair-3 c = search needs
-
-add-stage-pair : tie.Need-add-stage-pair Inv-loop μ-loop
-add-stage-pair c = search needs
-
-mul-stage-pair-4 : tie.Need-mul-stage-pair-4 Inv-loop μ-loop
-mul-stage-pair-4 c = search needs
-
-shared-slice-read-stage-pair-2 : tie.Need-shared-slice-read-stage-pair-2 Inv-loop μ-loop
-shared-slice-read-stage-pair-2 c = search needs
-
 stage-pair-requires : tie.Need-stage-pair-requires Inv-loop μ-loop
 stage-pair-requires c κs =
-    let at-loop = c .before .before .before .before .before .before in
+    let at-loop-test = c .before .before .before in
+    let at-loop = at-loop-test .before in
     let g = at-loop .loop .inv .1 in
-    (record { room = omega (arith, at-loop .loop .inv .0, g .stageLong); small = omega (arith, g .stageLong) }, g .ready)
+    (record { room = omega (arith, at-loop .loop .inv .0, g .stageLong); small = omega (arith, g .stageLong) }, g .ready, omega (arith, at-loop-test .loop-test .taken))
 
 add-out : tie.Need-add-out Inv-loop μ-loop
 add-out c = search needs
 
 slice-write-out : tie.Need-slice-write-out Inv-loop μ-loop
 slice-write-out c =
-    let at-loop-test = c .before .before .before .before .before .before .before .before .before .before .before .before in
+    let at-loop-test = c .before .before .before .before .before .before .before .before .before .before in
     let at-loop = at-loop-test .before in
     let entry = at-loop .before .before .before .before .before .before in
     omega (arith, at-loop-test .loop-test .taken, at-loop .loop .inv .1 .outLong, entry .pre .room)
@@ -64,7 +47,7 @@ slice-write-out c =
 make-room-requires : tie.Need-make-room-requires Inv-loop μ-loop
 make-room-requires c κs =
     let at-stage-pair = c .before .before .before .before .before .before .before .before in
-    let at-loop-test = at-stage-pair .before .before .before .before .before .before in
+    let at-loop-test = at-stage-pair .before .before .before .before in
     let at-loop = at-loop-test .before in
     let room = at-loop .before .before .before .before .before .before .pre .room in
     let s = at-stage-pair .stage-pair in
@@ -81,7 +64,7 @@ loop-again : tie.Need-loop-again Inv-loop μ-loop
 loop-again c =
     let at-make-room = c .before .before .before in
     let at-stage-pair = at-make-room .before .before .before .before .before .before .before .before .before in
-    let at-loop-test = at-stage-pair .before .before .before .before .before .before in
+    let at-loop-test = at-stage-pair .before .before .before .before in
     let at-loop = at-loop-test .before in
     let room = at-loop .before .before .before .before .before .before .pre .room in
     let s = at-stage-pair .stage-pair in
@@ -125,12 +108,6 @@ put-words-spec =
     add-at-2
     loop-holds
     mul-stage-pair
-    mul-stage-pair-2
-    shared-slice-read-stage-pair
-    mul-stage-pair-3
-    add-stage-pair
-    mul-stage-pair-4
-    shared-slice-read-stage-pair-2
     stage-pair-requires
     add-out
     slice-write-out

@@ -1,20 +1,21 @@
 use native.Mathlib.Omega.{arith}
 use borrow.Author.Needs.{needs}
+use Rattle.words.specs.Words.{xor}
+use Rattle.words.proofs.Xor.{xor-same, xor-differs, xor-word}
 use Rattle.block_rules.proofs.Codes.{written-small}
 use Rattle.block_staging.proofs.Stage.{fcm-zero, dfcm-zero, chosen-staged}
 use Rattle.block_staging.proofs.stage_chosen.Statement.{statement}
 use Rattle.block_staging.proofs.stage_chosen.Tie as tie
 
 returns : tie.Need-returns
-returns c =
-    fcm-zero _ _ _ _ (c .if1 .taken)
+returns c = fcm-zero _ _ _ _ (xor-same _ _ (c .if1 .taken))
 
 returns-2 : tie.Need-returns-2
-returns-2 c =
-    dfcm-zero _ _ _ _ (omega arith) (c .before .if1 .left) (c .if2 .taken)
+returns-2 c = dfcm-zero _ _ _ _ (xor-word _ _ (omega arith) (omega arith)) (xor-differs _ _ (c .before .if1 .left)) (xor-same _ _ (c .if2 .taken))
 
 chosen-requires : tie.Need-chosen-requires
-chosen-requires c κs = search needs
+unfolding xor
+chosen-requires c κs = (omega (arith, xor-differs _ _ (c .before .if1 .left)), omega (arith, xor-differs _ _ (c .if2 .left)))
 
 store-eight-requires : tie.Need-store-eight-requires
 store-eight-requires c κs = search needs
@@ -22,8 +23,8 @@ store-eight-requires c κs = search needs
 written-requires : tie.Need-written-requires
 written-requires c κs = search needs
 
-add-t12 : tie.Need-add-t12
-add-t12 c =
+add-t15 : tie.Need-add-t15
+add-t15 c =
     let at-chosen = c .before .before .before .before .before in
     let entry = at-chosen .before .before .before .before in
     omega (arith, c .written .ensures, written-small (at-chosen .chosen .result .code), entry .pre .room, entry .pre .small)
@@ -32,6 +33,7 @@ same-length : tie.Need-same-length
 same-length c = search needs
 
 returns-3 : tie.Need-returns-3
+unfolding xor
 returns-3 c =
     let at-store-eight = c .before .before .before in
     let at-chosen = at-store-eight .before .before in
@@ -41,4 +43,4 @@ returns-3 c =
 pub stage-chosen-spec : {M : Type 1} → statement M
 stage-chosen-spec =
     tie.close
-    (tie.spec returns returns-2 chosen-requires store-eight-requires written-requires add-t12 same-length returns-3)
+    (tie.spec returns returns-2 chosen-requires store-eight-requires written-requires add-t15 same-length returns-3)

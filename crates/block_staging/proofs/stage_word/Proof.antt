@@ -1,6 +1,6 @@
 use mathlib.Core.Path.{refl}
 use borrow.Author.Needs.{needs}
-use Rattle.words.specs.Words.{xor, add64}
+use Rattle.words.specs.Words.{add64}
 use Rattle.block_rules.specs.Inside.{memory}
 use Rattle.block_staging.proofs.Stage.{coded-word, word-staged}
 use Rattle.block_staging.proofs.stage_word.Statement.{statement}
@@ -37,14 +37,14 @@ same-length-3 : tie.Need-same-length-3
 same-length-3 c = search needs
 
 returns : tie.Need-returns
-unfolding xor add64
+unfolding add64
 returns c =
     let at-stage-chosen = c .before .before in
     let at-learn = at-stage-chosen .before .before .before .before .before .before in
     let at-wrapping-add-u64 = at-learn .before .before .before in
     let entry = at-wrapping-add-u64 .before .before .before .before .before .before in
     word-staged _ (memory (entry .args .fcm .now) (entry .args .dfcm .now) (entry .args .carry)) _ _ _ _ _ _ _ _ _
-    (coded-word (entry .args .fcm .now) (entry .args .dfcm .now) (entry .args .carry) _ _ _ _ refl (at-wrapping-add-u64 .wrapping-add-u64 .ensures) refl)
+    (coded-word (entry .args .fcm .now) (entry .args .dfcm .now) (entry .args .carry) _ _ _ refl (at-wrapping-add-u64 .wrapping-add-u64 .ensures))
     (at-learn .learn .ensures) (at-stage-chosen .stage-chosen .ensures)
 
 pub stage-word-spec : {M : Type 1} → statement M
