@@ -151,7 +151,9 @@ extern "C" {
  *   length             becomes the length of the block in bytes
  *
  * Checks in order: 1 tables; 2 more than 65,536 words; 3 out_len under COIL_WORST(words_len).
- * On success the first *length bytes of out are the block and the rest of out is as it was. */
+ * On success the first *length bytes of out are the block and the rest of out is as it was.
+ * The block has the length that it had before request L2 (docs/FORMAT.md, "Blocks packed before"), but its bytes may be
+ * others: the choice between the two predictors now goes by leading zero bits. */
 uint32_t coil_pack(const uint64_t *words, size_t words_len,
                    uint64_t *fcm, size_t fcm_len, uint64_t *dfcm, size_t dfcm_len,
                    uint8_t *out, size_t out_len, size_t *length);
@@ -162,7 +164,7 @@ uint32_t coil_pack(const uint64_t *words, size_t words_len,
  *
  * Checks in order: 4 under 8 bytes; 2 declares more than 65,536 words; 5 length; 6 filler.
  * A block that passes is not refused by coil_unpack, given two valid tables and the room. It need
- * not be a block that coil_pack would write. The number of words it declares is its first 4 bytes, least
+ * not be a block that coil_pack would write: blocks packed before pass too. The number of words it declares is its first 4 bytes, least
  * significant byte first: so much room coil_unpack asks for. */
 uint32_t coil_check(const uint8_t *block, size_t block_len);
 
@@ -287,7 +289,7 @@ uint32_t coil_append(uint8_t *file, size_t file_len, size_t length, uint64_t exa
  * are where they were. Later blocks have moved by the difference of the two lengths, with their bytes as they
  * were: ask coil_find again for their place. Every slot keeps its number, and exam number and t are as they were. A file that these calls made is,
  * byte for byte, the one that coil_create and coil_append make afresh from the changed maps, where none of those
- * appends is refused.
+ * appends is refused. (Of a file with maps packed before, the other blocks' bytes are kept as found.)
  * Where the file got shorter, the bytes from *new_length up to the old length are 0, since they were patient
  * data. The buffer beyond both lengths, and the bench beyond the block, are as they were. Nothing else is cleared:
  * the bench, the tables and the words that you lend may hold patient data, and so may an older file on disk. */

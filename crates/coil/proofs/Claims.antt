@@ -82,7 +82,8 @@ pub coil-replace-is-its-parts : (first : List Map) (x : Map) (rest : List Map) {
     × (m ≡ fileLength (fileOf exam t (first ++ record { slot = x .slot; words = words } ∷ rest)))
 coil-replace-is-its-parts first x rest h w q e = replace-is-its-parts first x rest h w q e
 
--- And it is byte for byte the file that coil_create and coil_append make afresh from the changed list, where none of those is refused.
+-- And it is byte for byte the file that coil_create and coil_append make afresh from the changed list, where none of those is refused: a file packed wholly by the
+-- rule's choice.
 pub coil-replace-is-afresh : (first : List Map) (x : Map) (rest : List Map) {exam t : ℕ} {b c : List ℕ} {l k : ℕ} {words fcm dfcm bench b' f' d' bench' : List ℕ} {r m : ℕ}
     → MadeOf exam t (first ++ x ∷ rest) b l → Words words → CoilReplaces b l exam (x .slot) words fcm dfcm bench r b' f' d' bench' m → r ≡ 0
     → MadeOf exam t (first ++ record { slot = x .slot; words = words } ∷ rest) c k → (m ≡ k) × (take m b' ≡ take k c)

@@ -208,7 +208,7 @@ replace-forgets p q e g z =
 
 -- The first l bytes of the buffer b are a file that create made for an exam and a t, and then an append for each of the maps, none of them refused. Between
 -- two calls it may have been copied: to disk and back, say, into any buffer that begins with the same l bytes. And the words of a map may have been replaced,
--- which was not refused: then the list has the new ones.
+-- which was not refused: then the list has the new ones. All its maps are packed by the rule's choice; of files packed before, see `MadeBefore`.
 pub data MadeOf (exam t : ℕ) : List Map → List ℕ → ℕ → Type 0 where
   created : {b b' : List ℕ} {r : Made} → exam < 2 ^ 64 → Creates b exam t r b' → r .number ≡ 0 → MadeOf exam t [] b' (r .length)
   grown : {ms : List Map} {b : List ℕ} {l slot : ℕ} {words fcm dfcm bench b' fcm' dfcm' bench' : List ℕ} {r : Made}
@@ -283,7 +283,8 @@ pub replace-is-its-parts : (first : List Map) (m : Map) (rest : List Map) {exam 
     × (r .length ≡ fileLength (fileOf exam t (first ++ record { slot = m .slot; words = words } ∷ rest)))
 replace-is-its-parts first m rest k w c e = made-is-its-parts (made-replaces first m rest k w c e)
 
--- And it is byte for byte the file that create and appends make afresh from the changed list, in any buffer, where none of those is refused.
+-- And it is byte for byte the file that create and appends make afresh from the changed list, in any buffer, where none of those is refused. This is of files
+-- packed wholly by the rule's choice; of others, `replace-keeps-blocks` says that the other blocks' bytes are kept as found.
 pub replace-is-afresh : (first : List Map) (m : Map) (rest : List Map) {exam t : ℕ} {b c : List ℕ} {l k : ℕ} {words fcm dfcm bench b' fcm' dfcm' bench' : List ℕ} {r : Made}
     → MadeOf exam t (first ++ m ∷ rest) b l → Words words → Replaces b l exam (m .slot) words fcm dfcm bench r b' fcm' dfcm' bench' → r .number ≡ 0
     → MadeOf exam t (first ++ record { slot = m .slot; words = words } ∷ rest) c k → (r .length ≡ k) × (take (r .length) b' ≡ take k c)
