@@ -21,10 +21,11 @@ pieceOf t m = record { slot = m .slot; block = block t (m .words) }
 abbrev pub fileOf : ℕ → ℕ → List Map → File
 fileOf exam t ms = fileOfPieces exam t (map (pieceOf t) ms)
 
--- the same, where each map was packed by a choice of its own: files of maps that were packed before, all of them or some
+-- the piece of a map that was packed by a choice of its own
 abbrev pub pieceBy : (Map → Choice) → ℕ → Map → Piece
 pieceBy choice t m = record { slot = m .slot; block = blockBy (choice m) t (m .words) }
 
+-- the file of maps that were packed so: one that was made before, where some maps or all were packed by another choice than the rule's
 abbrev pub fileBy : (Map → Choice) → ℕ → ℕ → List Map → File
 fileBy choice exam t ms = fileOfPieces exam t (map (pieceBy choice t) ms)
 
