@@ -164,8 +164,8 @@ uint32_t coil_pack(const uint64_t *words, size_t words_len,
  *
  * Checks in order: 4 under 8 bytes; 2 declares more than 65,536 words; 5 length; 6 filler.
  * A block that passes is not refused by coil_unpack, given two valid tables and the room. It need
- * not be a block that coil_pack would write: blocks packed before pass too. The number of words it declares is its first 4 bytes, least
- * significant byte first: so much room coil_unpack asks for. */
+ * not be a block that coil_pack would write: blocks packed before request L2 pass too. The number of words it
+ * declares is its first 4 bytes, least significant byte first: so much room coil_unpack asks for. */
 uint32_t coil_check(const uint8_t *block, size_t block_len);
 
 /* Unpack a block into words.
@@ -287,9 +287,10 @@ uint32_t coil_append(uint8_t *file, size_t file_len, size_t length, uint64_t exa
  * The old block is not looked at, so a damaged one can be replaced.
  * On success the new block starts where the old one did, and is also in the first bytes of bench. Earlier blocks
  * are where they were. Later blocks have moved by the difference of the two lengths, with their bytes as they
- * were: ask coil_find again for their place. Every slot keeps its number, and exam number and t are as they were. A file that these calls made is,
- * byte for byte, the one that coil_create and coil_append make afresh from the changed maps, where none of those
- * appends is refused. (Of a file with maps packed before, the other blocks' bytes are kept as found.)
+ * were: ask coil_find again for their place. Every slot keeps its number, and exam number and t are as they were.
+ * A file that these calls made is, byte for byte, the one that coil_create and coil_append make afresh from the
+ * changed maps, where none of those appends is refused. (Of a file with maps packed before request L2, the other
+ * blocks' bytes are kept as found.)
  * Where the file got shorter, the bytes from *new_length up to the old length are 0, since they were patient
  * data. The buffer beyond both lengths, and the bench beyond the block, are as they were. Nothing else is cleared:
  * the bench, the tables and the words that you lend may hold patient data, and so may an older file on disk. */

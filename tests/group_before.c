@@ -23,8 +23,9 @@ static size_t pack_before(const uint64_t *from, size_t count, uint32_t t)
     return ref_pack_before(from, count, fcm, dfcm, (size_t)1 << t, before);
 }
 
-static void there_and_back(size_t count, uint32_t t)
+static void there_and_back(size_t count, uint32_t t, unsigned round)
 {
+    (void)round;
     size_t length = pack_before(words, count, t);
     outcome packed = compare_pack(words, count, tables_of(t), WORST(count));
     must_answer(packed, 0);
@@ -35,20 +36,6 @@ static void there_and_back(size_t count, uint32_t t)
     must_answer(unpacked, 0);
     must_hold(unpacked.first == count && memcmp(unpacked.words, words, 8 * count) == 0,
               "a block that was packed before gives its words");
-}
-
-static void every_kind_and_t(unsigned rounds)
-{
-    for (uint32_t t = 0; t <= 16; t++) {
-        for (unsigned kind = 0; kind < KINDS; kind++) {
-            for (unsigned round = 0; round < rounds; round++) {
-                size_t count = random_below(4) == 0 ? random_below(9) : random_below(MOST + 1);
-                this_case_is("packed before: %s, t = %u, %zu words, round %u", kind_names[kind], t, count, round);
-                make_words((kind_of_words)kind, words, count);
-                there_and_back(count, t);
-            }
-        }
-    }
 }
 
 /* ---- Files ---- */
@@ -105,7 +92,7 @@ static void lives_on(uint32_t t)
 void group_before(unsigned rounds)
 {
     other_bytes = 0;
-    every_kind_and_t(rounds);
+    every_kind_and_t("a block packed before", rounds, words, MOST, there_and_back);
     must_hold(other_bytes > 0, "the two rules give other bytes somewhere");
     for (unsigned round = 0; round < 4 * rounds; round++) {
         uint32_t t = (uint32_t)random_below(17);

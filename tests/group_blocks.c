@@ -41,20 +41,11 @@ static void other_rooms(size_t count, uint32_t t)
     compare_unpack(block, length, tables_of((uint32_t)random_below(17)), count);
 }
 
-static void every_kind_and_t(unsigned rounds)
+static void try_rooms(size_t count, uint32_t t, unsigned round)
 {
-    for (uint32_t t = 0; t <= 16; t++) {
-        for (unsigned kind = 0; kind < KINDS; kind++) {
-            for (unsigned round = 0; round < rounds; round++) {
-                size_t count = random_below(4) == 0 ? random_below(9) : random_below(MOST + 1);
-                this_case_is("%s, t = %u, %zu words, round %u", kind_names[kind], t, count, round);
-                make_words((kind_of_words)kind, words, count);
-                there_and_back(count, t);
-                if (round % 4 == 0) {
-                    other_rooms(count, t);
-                }
-            }
-        }
+    there_and_back(count, t);
+    if (round % 4 == 0) {
+        other_rooms(count, t);
     }
 }
 
@@ -132,7 +123,7 @@ static void forged_blocks(unsigned rounds)
 
 void group_blocks(unsigned rounds)
 {
-    every_kind_and_t(rounds);
+    every_kind_and_t("a block", rounds, words, MOST, try_rooms);
     every_short_count();
     every_room();
     every_table_size();

@@ -22,6 +22,20 @@ uint64_t get_field(const uint8_t *at, unsigned bytes)
     return value;
 }
 
+void every_kind_and_t(const char *title, unsigned rounds, uint64_t *words, size_t most, try_words *try)
+{
+    for (uint32_t t = 0; t <= 16; t++) {
+        for (unsigned kind = 0; kind < KINDS; kind++) {
+            for (unsigned round = 0; round < rounds; round++) {
+                size_t count = random_below(4) == 0 ? random_below(9) : random_below(most + 1);
+                this_case_is("%s: %s, t = %u, %zu words, round %u", title, kind_names[kind], t, count, round);
+                make_words((kind_of_words)kind, words, count);
+                try(count, t, round);
+            }
+        }
+    }
+}
+
 size_t forge_block(uint8_t *block, size_t count)
 {
     static const size_t written[8] = { 8, 7, 6, 5, 3, 2, 1, 0 };

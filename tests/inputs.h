@@ -22,6 +22,10 @@ enum { AT_SLOT = 0, AT_OFFSET = 4, AT_BLOCK_LENGTH = 8 };
 void put_field(uint8_t *at, unsigned bytes, uint64_t value);
 uint64_t get_field(const uint8_t *at, unsigned bytes);
 
+/* Every kind of words, up to most of them, with every t, some rounds of each: made and then tried. */
+typedef void try_words(size_t count, uint32_t t, unsigned round);
+void every_kind_and_t(const char *title, unsigned rounds, uint64_t *words, size_t most, try_words *try);
+
 /* A block of random codes and random residual bytes, well formed. Answers its length. */
 size_t forge_block(uint8_t *block, size_t count);
 
