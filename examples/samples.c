@@ -4,15 +4,10 @@
  *     samples FOLDER
  */
 #include "coil.h"
+#include "sample_map.h"
 
 #include <stdio.h>
 #include <stdlib.h>
-#include <string.h>
-
-#define VALUES 4096u
-#define SLOTS 5u
-#define T 10u
-#define EXAM UINT64_C(20240117)
 
 static uint8_t file[COIL_FILE_ROOM(SLOTS, VALUES)];
 static uint8_t bench[COIL_WORST(VALUES)];
@@ -20,18 +15,6 @@ static uint64_t fcm[COIL_TABLE_WORDS(T)];
 static uint64_t dfcm[COIL_TABLE_WORDS(T)];
 static uint64_t words[VALUES];
 static uint8_t bytes[8 * VALUES];
-
-/* A made map of 64 by 64 values: the coil sees more of what is near, and outside a disc is air. */
-static void make_map(unsigned coil)
-{
-    for (unsigned i = 0; i < VALUES; i++) {
-        double x = (double)(i % 64), y = (double)(i / 64), value = 0.0;
-        double from_coil = (x - 15.0 * coil) * (x - 15.0 * coil) + y * y;
-        if ((x - 31.5) * (x - 31.5) + (y - 31.5) * (y - 31.5) < 260.0)
-            value = 1.0 / (1.0 + from_coil / 400.0);
-        memcpy(&words[i], &value, sizeof value);
-    }
-}
 
 static void write_file(const char *folder, const char *name, const uint8_t *from, size_t length)
 {
@@ -50,13 +33,13 @@ int main(int argc, char **argv)
     if (argc != 2 || coil_create(file, sizeof file, EXAM, T, &length) != COIL_DONE)
         return 2;
     for (uint32_t slot = 0; slot < SLOTS; slot++) {
-        make_map(slot);
+        make_map(slot, words);
         if (coil_append(file, sizeof file, length, EXAM, slot, words, VALUES >> slot, fcm, COIL_TABLE_WORDS(T),
                         dfcm, COIL_TABLE_WORDS(T), bench, sizeof bench, &new_length) != COIL_DONE)
             return 1;
         length = new_length;
     }
-    make_map(0);
+    make_map(0, words);
     for (size_t i = 0; i < sizeof bytes; i++)
         bytes[i] = (uint8_t)(words[i / 8] >> (8 * (i % 8)));
     write_file(argv[1], "map.words", bytes, sizeof bytes);

@@ -46,7 +46,7 @@
  * clears both before it uses them, so old content does not matter, and the same two tables can serve
  * every call, one call after the other. t = 10 (1,024 words, 8 KiB a table) is a fair start.
  *
- * THREE WARNINGS
+ * FOUR WARNINGS
  *
  *   A block does not tell its t. Unpacking a block with tables of another size than it was packed with
  *   may answer 0 and give other words. So keep maps in exam files: a file tells its t, and coil_fetch
@@ -62,6 +62,11 @@
  *   happens to end like a file. Then coil_fetch refuses at least one of its slots. Of a file that
  *   another program made, a first part may open with nothing refused. A block that was cut short is always
  *   refused. docs/CUT_FILES.md has the details.
+ *
+ *   Packing the same words again may give other bytes than before request L2 (16 November 2026), of the same length:
+ *   the choice between the two predictors goes by leading zero bits since. Nothing needs to be converted. Earlier blocks
+ *   and files are checked, opened, unpacked and fetched as they were, you can append to and replace in them, and a
+ *   library from before reads what this one packs. docs/FORMAT.md, "Blocks packed before", has the details.
  */
 #ifndef COIL_H
 #define COIL_H
@@ -105,8 +110,8 @@ extern "C" {
 
 /* Bytes of buffer in which k maps of at most n words can be kept, one append after the other, each replaced
  * as often as you like. For maps of different lengths add COIL_APPEND_ROOM(0, n) of each to COIL_EMPTY_FILE, with
- * the larger n where a map is to be replaced by a longer one. A file has at most COIL_MOST_ENTRIES maps and COIL_MOST_FILE_BYTES bytes: beyond that
- * an append answers 12 or 3, and a replace 3. */
+ * the larger n where a map is to be replaced by a longer one. A file has at most COIL_MOST_ENTRIES maps and
+ * COIL_MOST_FILE_BYTES bytes: beyond that an append answers 12 or 3, and a replace 3. */
 #define COIL_FILE_ROOM(k, n) (COIL_EMPTY_FILE + (size_t)(k) * COIL_APPEND_ROOM(0, n))
 
 /* ---- Numbers answered ------------------------------------------------------------------------- */
@@ -151,9 +156,7 @@ extern "C" {
  *   length             becomes the length of the block in bytes
  *
  * Checks in order: 1 tables; 2 more than 65,536 words; 3 out_len under COIL_WORST(words_len).
- * On success the first *length bytes of out are the block and the rest of out is as it was.
- * The block has the length that it had before request L2 (docs/FORMAT.md, "Blocks packed before"), but its bytes may be
- * others: the choice between the two predictors now goes by leading zero bits. */
+ * On success the first *length bytes of out are the block and the rest of out is as it was. */
 uint32_t coil_pack(const uint64_t *words, size_t words_len,
                    uint64_t *fcm, size_t fcm_len, uint64_t *dfcm, size_t dfcm_len,
                    uint8_t *out, size_t out_len, size_t *length);
@@ -288,9 +291,9 @@ uint32_t coil_append(uint8_t *file, size_t file_len, size_t length, uint64_t exa
  * On success the new block starts where the old one did, and is also in the first bytes of bench. Earlier blocks
  * are where they were. Later blocks have moved by the difference of the two lengths, with their bytes as they
  * were: ask coil_find again for their place. Every slot keeps its number, and exam number and t are as they were.
- * A file that these calls made is, byte for byte, the one that coil_create and coil_append make afresh from the
- * changed maps, where none of those appends is refused. (Of a file with maps packed before request L2, the other
- * blocks' bytes are kept as found.)
+ * A file that these calls made, with all its maps packed since request L2, is then, byte for byte, the one that
+ * coil_create and coil_append make afresh from the changed maps, where none of those appends is refused. Of any
+ * other file the other blocks' bytes are kept as found.
  * Where the file got shorter, the bytes from *new_length up to the old length are 0, since they were patient
  * data. The buffer beyond both lengths, and the bench beyond the block, are as they were. Nothing else is cleared:
  * the bench, the tables and the words that you lend may hold patient data, and so may an older file on disk. */

@@ -24,7 +24,7 @@ typedef struct {
 
 static const group groups[] = {
     { "blocks", group_blocks, "pack, check, unpack: every kind of words, every t, room and table size" },
-    { "before", group_before, "blocks and files packed before: as long, checked, unpacked, fetched, gone on with" },
+    { "before", group_before, "packed before request L2: as long, checked, unpacked, fetched, appended to, replaced in" },
     { "files", group_files, "create, append, open, find, fetch: lives of files, every length and room" },
     { "damage", group_damage, "every bit flipped, every cut, changed and forged fields" },
     { "replace", group_replace, "lives with replaces, made afresh again; every size, place, distance and room" },

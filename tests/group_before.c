@@ -1,5 +1,5 @@
-/* Blocks and files packed before, when whole zero bytes were compared: checked, unpacked and fetched as ever, and as
- * long as today's. A file that has some of both is appended to and replaced in. */
+/* Blocks and files packed before request L2, when whole zero bytes were compared: checked, unpacked and fetched as
+ * ever, and as long as today's. A file that has some of both is appended to and replaced in. */
 #include "groups.h"
 #include "inputs.h"
 #include "reference.h"

@@ -128,7 +128,7 @@ static int more_zero_bits(uint64_t fcm_residual, uint64_t dfcm_residual)
     return leading_zero_bits(dfcm_residual) > leading_zero_bits(fcm_residual);
 }
 
-/* What the rule was when blocks were packed before. */
+/* The rule before request L2. */
 static int more_zero_bytes(uint64_t fcm_residual, uint64_t dfcm_residual)
 {
     return leading_zero_bytes(dfcm_residual) > leading_zero_bytes(fcm_residual);

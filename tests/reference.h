@@ -15,8 +15,8 @@ uint32_t ref_pack(const uint64_t *words, size_t words_len,
                   uint64_t *fcm, size_t fcm_len, uint64_t *dfcm, size_t dfcm_len,
                   uint8_t *out, size_t out_len, size_t *length);
 
-/* Writes the block of words as it was packed before, when whole zero bytes were compared, and answers its length.
- * It refuses nothing: lend two tables of the same entries, a power of two, and room for the worst block. */
+/* Writes the block of words as it was packed before request L2, when whole zero bytes were compared, and answers
+ * its length. It refuses nothing: lend two tables of the same entries, a power of two, and room for the worst block. */
 size_t ref_pack_before(const uint64_t *words, size_t words_len, uint64_t *fcm, uint64_t *dfcm,
                        size_t entries, uint8_t *out);
 

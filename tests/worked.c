@@ -257,12 +257,12 @@ static void blocks_worked_by_hand(void)
 }
 
 /* The ten bytes of word 1 with the last byte 00. No packer writes them; they are accepted and give word 0. Then the
- * words 1, 3: as they were packed before, when whole zero bytes were compared, and as they are packed. */
+ * words 1, 3: as they were packed before request L2, when whole zero bytes were compared, and as they are packed. */
 static void only_read(void)
 {
     const char *ten = "01 00 00 00 0a 00 00 00 67 00";
     const char *by_bytes = "02 00 00 00 0b 00 00 00 66 01 02", *by_bits = "02 00 00 00 0b 00 00 00 6e 01 01";
-    printf("Blocks that are only read\n");
+    printf("Blocks that are read, whoever packed them\n");
     fill_tables(0x1234, 0x5678);
     check(ten);
     unpack(ten, 1, 1, 2);

@@ -1,4 +1,4 @@
--- The choice: what is taken of the residuals f by fcm and d by dfcm, neither of them 0, whichever way was gone.
+-- The choice: what is taken of the residuals f by fcm and d by dfcm, neither of them 0, whichever branch was taken.
 use mathlib.Core.Path.{_≡_}
 use Prim.Native.Nat.{ℕ, _+_, _^_, _≤_, _<_}
 use native.Mathlib.Omega.{arith}

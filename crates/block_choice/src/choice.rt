@@ -23,8 +23,8 @@ pub fn written(code: u8) -> usize
 }
 
 // Of two residuals, neither of them 0, the chosen one with its code: fcm's, unless dfcm's has more
-// leading zero bits. The top bit of a code, 8, is for dfcm. Only numbers are assigned under the test:
-// noise chooses at random, and the compiler needs no branch for it.
+// leading zero bits. The top bit of a code, 8, is for dfcm. Under the test values are only exchanged,
+// so that the compiler makes no branch of it: noise would have it guessed wrongly every third time.
 pub fn chosen(by_fcm: u64, by_dfcm: u64) -> Coded
     requires { ⌜ (0 < «by_fcm») × (0 < «by_dfcm») ⌝ }
     ensures { λ r. ⌜ r ≡ chosen dfcmChosen «by_fcm» «by_dfcm» ⌝ }

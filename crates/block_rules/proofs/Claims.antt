@@ -15,7 +15,6 @@ use Rattle.block_rules.specs.Calls.{checked}
 use Rattle.block_rules.specs.Worked.{cases, made, worked}
 use Rattle.block_rules.specs.Numbers.{tOf, fillerStands, blockNumber}
 use Rattle.block_rules.proofs.Tables.{t-of-power}
-use Rattle.block_rules.specs.declared.Checked.{Checked}
 use Rattle.block_rules.proofs.Codes.{rule-thrifty, bytes-thrifty}
 use Rattle.block_rules.proofs.Lengths.{block-at-most}
 use Rattle.block_rules.proofs.Accept.{checks-number, check-done, counted, too-short-for-codes, whole-alone}
@@ -29,16 +28,16 @@ use Rattle.block_rules.proofs.Runs.{block-closer, closer-at-most}
 
 -- Every case of this list comes out as it was worked by hand.
 pub worked-by-hand : map made cases ≡ map worked cases
-unfolding block blockBy arranged body residualBytes codedWord chosen codedBy written lowThree dfcmChosen fcmResidual dfcmResidual learn nextFcmHash nextDfcmHash difference fcmPrediction dfcmPrediction cleared checked blockNumber fillerStands lastHalf countedCodes unless firstFailure afterwards add64 sub64 shiftedLeft shiftedRight lowBits xor zeroBytes leadingZeros
+unfolding block blockBy arranged body residualBytes codedWord chosen codedBy written lowThree dfcmChosen dfcmChosenByBytes fcmResidual dfcmResidual learn nextFcmHash nextDfcmHash difference fcmPrediction dfcmPrediction cleared checked blockNumber fillerStands lastHalf countedCodes unless firstFailure afterwards add64 sub64 shiftedLeft shiftedRight lowBits xor zeroBytes leadingZeros
 worked-by-hand = refl
 
--- ---- the choice, and blocks that were packed before
+-- ---- the choice, and blocks that were packed before request L2
 
 -- The rule's choice never takes the residual with fewer leading zero bytes.
 pub rule-is-thrifty : Thrifty dfcmChosen
 rule-is-thrifty = rule-thrifty
 
--- Nor did the choice by which blocks were packed before.
+-- Nor did the choice before, by leading zero bytes.
 pub before-was-thrifty : Thrifty dfcmChosenByBytes
 before-was-thrifty = bytes-thrifty
 

@@ -1,4 +1,4 @@
--- What a word costs: no code and residual that read as the word cost less than those taken, by any choice that is thrifty.
+-- What a word costs, by any choice that is thrifty: no code and residual that read as the word cost less than those taken; and two choices cost alike.
 use mathlib.Core.Path.{_≡_, refl, sym, ap, _∙_, subst}
 use mathlib.Core.Bool.{true, false}
 use mathlib.Core.List.{List, [], _∷_}
@@ -46,7 +46,7 @@ zeros-of-written r c h =
     omega (arith, zeros-of-fit r (written c) w h)
 
 module _ (choice : Choice) (thrifty : Thrifty choice) where
-  -- the one taken is coded for as many zero bytes as either residual has
+  -- the one taken costs what the residual with more leading zero bytes costs
   chosen-cost : (f d : ℕ) → written (chosen choice f d .code) ≡ written (lowThree (max (zeroBytes f) (zeroBytes d)))
   unfolding chosen
   chosen-cost f d =

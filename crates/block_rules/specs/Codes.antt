@@ -27,11 +27,11 @@ Choice = ℕ → ℕ → Bool
 unfoldable pub dfcmChosen : Choice
 dfcmChosen f d = ltb (leadingZeros 64 f) (leadingZeros 64 d)
 
--- the choice of blocks that were packed before: dfcm was chosen when its residual had strictly more leading zero bytes; otherwise fcm
+-- the choice before request L2, of blocks that were packed before: dfcm was chosen when its residual had strictly more leading zero bytes; otherwise fcm
 unfoldable pub dfcmChosenByBytes : Choice
 dfcmChosenByBytes f d = ltb (zeroBytes f) (zeroBytes d)
 
--- what a choice must keep so that no block gets longer by it: it never takes the residual with fewer leading zero bytes
+-- what a choice keeps so that a block's length does not depend on it: it never takes the residual with fewer leading zero bytes
 pub record Thrifty (choice : Choice) : Type 0 where
   pub dfcm : (f d : ℕ) → choice f d ≡ true → zeroBytes f ≤ zeroBytes d
   pub fcm : (f d : ℕ) → choice f d ≡ false → zeroBytes d ≤ zeroBytes f

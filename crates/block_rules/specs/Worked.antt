@@ -1,22 +1,26 @@
 -- The blocks worked by hand that the rules are to be proved to give, as one list.
 use Prim.Native.Nat.{ℕ}
 use mathlib.Core.List.{List, [], _∷_}
-use Rattle.block_rules.specs.Block.{block}
+use Rattle.block_rules.specs.Codes.{dfcmChosenByBytes}
+use Rattle.block_rules.specs.Block.{blockBy, block}
 use Rattle.block_rules.specs.Calls.{checked}
 
--- with tables of 2 ^ t words, these words have this block; or: checking these bytes answers this number
+-- with tables of 2 ^ t words, these words have this block; or: they had this block before request L2; or: checking these bytes answers this number
 pub data Case : Type 0 where
   packs : ℕ → List ℕ → List ℕ → Case
+  packed : ℕ → List ℕ → List ℕ → Case
   answers : List ℕ → ℕ → Case
 
 -- what the rules make of a case
 abbrev pub made : Case → List ℕ
 made (packs t ws b) = block t ws
+made (packed t ws b) = blockBy dfcmChosenByBytes t ws
 made (answers b k) = checked b .number ∷ []
 
 -- what was worked by hand
 abbrev pub worked : Case → List ℕ
 worked (packs t ws b) = b
+worked (packed t ws b) = b
 worked (answers b k) = k ∷ []
 
 abbrev pub cases : List Case
@@ -27,6 +31,7 @@ cases =
     ∷ packs 0 (1 ∷ 1 ∷ []) (0x02 ∷ 0x00 ∷ 0x00 ∷ 0x00 ∷ 0x0A ∷ 0x00 ∷ 0x00 ∷ 0x00 ∷ 0x67 ∷ 0x01 ∷ [])
     ∷ packs 0 (1 ∷ 2 ∷ 3 ∷ []) (0x03 ∷ 0x00 ∷ 0x00 ∷ 0x00 ∷ 0x0B ∷ 0x00 ∷ 0x00 ∷ 0x00 ∷ 0x6F ∷ 0xF7 ∷ 0x01 ∷ [])
     ∷ packs 0 (1 ∷ 3 ∷ []) (0x02 ∷ 0x00 ∷ 0x00 ∷ 0x00 ∷ 0x0B ∷ 0x00 ∷ 0x00 ∷ 0x00 ∷ 0x6E ∷ 0x01 ∷ 0x01 ∷ [])
+    ∷ packed 0 (1 ∷ 3 ∷ []) (0x02 ∷ 0x00 ∷ 0x00 ∷ 0x00 ∷ 0x0B ∷ 0x00 ∷ 0x00 ∷ 0x00 ∷ 0x66 ∷ 0x01 ∷ 0x02 ∷ [])
     ∷ packs 0 (0x8000_0000 ∷ []) (0x01 ∷ 0x00 ∷ 0x00 ∷ 0x00 ∷ 0x0E ∷ 0x00 ∷ 0x00 ∷ 0x00 ∷ 0x37 ∷ 0x00 ∷ 0x00 ∷ 0x00 ∷ 0x80 ∷ 0x00 ∷ [])
     ∷ packs 0 (0xFFFF_FFFF_FFFF_FFFF ∷ 0 ∷ [])
     (0x02 ∷ 0x00 ∷ 0x00 ∷ 0x00 ∷ 0x19 ∷ 0x00 ∷ 0x00 ∷ 0x00 ∷ 0x00

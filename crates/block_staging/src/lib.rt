@@ -57,17 +57,23 @@ fn store_eight(stage: &mut [u8], at: usize, residual: u64)
 // Stages the residual bytes of a word behind those that are there, given what fcm and dfcm predict. A
 // word that is predicted has no byte, and most words of a map are: so that is asked first, and nothing
 // is worked out for it.
-fn stage_chosen(stage: &mut [u8], staged: usize, word: u64, fcm: u64, dfcm: u64) -> Staging
+fn stage_chosen(
+    stage: &mut [u8],
+    staged: usize,
+    word: u64,
+    fcm_predicts: u64,
+    dfcm_predicts: u64,
+) -> Staging
     requires { ⌜ StageRoom (now stage) staged 8 ⌝ }
-    ensures { λ r. ⌜ StagesChosen (now (stage .entry)) staged (chosen dfcmChosen (xor word fcm) (xor word dfcm)) (now (stage .exit)) r ⌝ }
+    ensures { λ r. ⌜ StagesChosen (now (stage .entry)) staged (chosen dfcmChosen (xor word «fcm_predicts») (xor word «dfcm_predicts»)) (now (stage .exit)) r ⌝ }
 {
-    if word == fcm {
+    if word == fcm_predicts {
         return Staging { code: 7, staged };
     }
-    if word == dfcm {
+    if word == dfcm_predicts {
         return Staging { code: 15, staged };
     }
-    let coded = block_choice::chosen(word ^ fcm, word ^ dfcm);
+    let coded = block_choice::chosen(word ^ fcm_predicts, word ^ dfcm_predicts);
     let code = coded.code;
     store_eight(stage, staged, coded.residual);
     Staging {
@@ -90,10 +96,10 @@ pub fn stage_word(
 {
     let fcm_hash = carry.fcm;
     let dfcm_hash = carry.dfcm;
-    let by_fcm = fcm[fcm_hash];
-    let by_dfcm = std::num::wrapping_add_u64(dfcm[dfcm_hash], carry.last);
+    let fcm_predicts = fcm[fcm_hash];
+    let dfcm_predicts = std::num::wrapping_add_u64(dfcm[dfcm_hash], carry.last);
     let next = block_choice::learn(fcm, dfcm, carry, word);
-    let done = stage_chosen(stage, staged, word, by_fcm, by_dfcm);
+    let done = stage_chosen(stage, staged, word, fcm_predicts, dfcm_predicts);
     Step {
         carry: next,
         code: done.code,
@@ -101,8 +107,8 @@ pub fn stage_word(
     }
 }
 
-// The same for two words, of which the first stands at a place. The second is read when its turn has
-// come: no register is free to keep it.
+// The same for two words, of which the first is words[at]. The second is read when its turn has come:
+// no register is free to keep it.
 pub fn stage_pair(
     fcm: &mut [u64],
     dfcm: &mut [u64],

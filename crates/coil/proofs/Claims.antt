@@ -103,10 +103,10 @@ coil-made-fetches first m rest k c lf ld enough =
     (ap (λ (x : Unpacked). x .number) (a .0), ap (λ (x : Unpacked). x .count) (a .0), a .1)
 
 -- where all blocks that coil_find finds pass coil_check, they are all whole
-all-pass : (c : List ℕ) (l asked : ℕ) → ((slot offset size : ℕ) → CoilFinds c l asked slot 0 offset size → CoilChecks (take size (drop offset c)) 0)
+all-whole : (c : List ℕ) (l asked : ℕ) → ((slot offset size : ℕ) → CoilFinds c l asked slot 0 offset size → CoilChecks (take size (drop offset c)) 0)
     → (slot : ℕ) → findNumber c l asked slot ≡ 0 → blockNumber (blockIn c l slot) ≡ 0
 unfolding located
-all-pass c l asked w slot z =
+all-whole c l asked w slot z =
     let x = entryOf slot (fileIn (take l c)) in
     let found : CoilFinds c l asked slot 0 (x .offset) (x .size) = rw (afterwards-new _ (x .offset) 0 z, afterwards-new _ (x .size) 0 z, z) refl in
     rw (found-part c l asked slot z) (sym (checks-number _) ∙ sym (w slot (x .offset) (x .size) found))
@@ -115,9 +115,9 @@ all-pass c l asked w slot z =
 -- coil_check, and coil_fetch unpacks none that does not pass.
 pub coil-cut-is-never-whole : {exam t : ℕ} {ms : List Map} {b : List ℕ} {l : ℕ} → MadeOf exam t ms b l → (k : ℕ) → k < l → (c : List ℕ) → take k c ≡ take k b
     → (asked : ℕ) → CoilOpens c k asked 0 → ((slot offset size : ℕ) → CoilFinds c k asked slot 0 offset size → CoilChecks (take size (drop offset c)) 0) → ⊥
-coil-cut-is-never-whole m k short c same asked o w = cut-is-never-whole m k short c same asked (sym o) (all-pass c k asked w)
+coil-cut-is-never-whole m k short c same asked o w = cut-is-never-whole m k short c same asked (sym o) (all-whole c k asked w)
 
--- ---- what was packed before, when dfcm was chosen by leading zero bytes
+-- ---- what was packed before request L2, when dfcm was chosen by leading zero bytes
 
 -- coil_check takes a block that was packed before.
 pub coil-packed-before-checks : (t : ℕ) (words : List ℕ) {r : ℕ} → length words ≤ 65536 → CoilChecks (blockBy dfcmChosenByBytes t words) r → r ≡ 0
@@ -131,13 +131,17 @@ coil-packed-before-unpacks words k h few c enough =
     let a = packed-before-unpacks words k h few c enough in
     (ap (λ (x : Unpacked). x .number) (a .0), ap (λ (x : Unpacked). x .count) (a .0), a .1)
 
--- coil_fetch gives them back from any file that opens and has the block in a slot, with tables of the file's 2 ^ t words.
-pub coil-packed-before-fetches : (words : List ℕ) {b : List ℕ} {l exam slot : ℕ} {fcm dfcm room f' d' room' : List ℕ} {r n : ℕ} → Words words → length words ≤ 65536
-    → findNumber b l exam slot ≡ 0 → blockIn b l slot ≡ blockBy dfcmChosenByBytes (fileIn (take l b) .t) words → CoilFetches b l exam slot fcm dfcm room r f' d' room' n
+-- coil_fetch gives them back from any file in which coil_find finds the block, with tables of the file's 2 ^ t words.
+pub coil-packed-before-fetches : (words : List ℕ) {b : List ℕ} {l exam slot offset size : ℕ} {fcm dfcm room f' d' room' : List ℕ} {r n : ℕ} → Words words → length words ≤ 65536
+    → CoilFinds b l exam slot 0 offset size → take size (drop offset b) ≡ blockBy dfcmChosenByBytes (fileIn (take l b) .t) words → CoilFetches b l exam slot fcm dfcm room r f' d' room' n
     → length fcm ≡ 2 ^ fileIn (take l b) .t → length dfcm ≡ 2 ^ fileIn (take l b) .t → length words ≤ length room
     → (r ≡ 0) × (n ≡ length words) × (room' ≡ over words room)
-coil-packed-before-fetches words h few found is c lf ld enough =
-    let a = packed-before-fetches words h few found is c lf ld enough in
+unfolding located
+coil-packed-before-fetches words {b} {l} {exam} {slot} h few found is c lf ld enough =
+    let z = sym (ap (λ (x : Located). x .number) found) in
+    let o = ap (λ (x : Located). x .offset) found ∙ afterwards-new _ (entryOf slot (fileIn (take l b)) .offset) 0 z in
+    let s = ap (λ (x : Located). x .size) found ∙ afterwards-new _ (entryOf slot (fileIn (take l b)) .size) 0 z in
+    let a = packed-before-fetches words h few z (found-part b l exam slot z ∙ (rw (o, s) at is)) c lf ld enough in
     (ap (λ (x : Unpacked). x .number) (a .0), ap (λ (x : Unpacked). x .count) (a .0), a .1)
 
 -- coil_open opens a file that was made before for its exam number.
@@ -156,7 +160,7 @@ coil-earlier-fetches first m rest k c lf ld enough =
 -- Nor are all blocks whole where such a file was cut and opens.
 pub coil-earlier-cut-is-never-whole : {exam t : ℕ} {ms : List Map} {b : List ℕ} {l : ℕ} → MadeBefore exam t ms b l → (k : ℕ) → k < l → (c : List ℕ) → take k c ≡ take k b
     → (asked : ℕ) → CoilOpens c k asked 0 → ((slot offset size : ℕ) → CoilFinds c k asked slot 0 offset size → CoilChecks (take size (drop offset c)) 0) → ⊥
-coil-earlier-cut-is-never-whole m k short c same asked o w = earlier-cut-is-never-whole m k short c same asked (sym o) (all-pass c k asked w)
+coil-earlier-cut-is-never-whole m k short c same asked o w = earlier-cut-is-never-whole m k short c same asked (sym o) (all-whole c k asked w)
 
 -- ---- every number is one of the call's list
 

@@ -49,18 +49,15 @@ pub map-reads : (t : ℕ) (m : Map) → Fit m → ReadsAs t (block t (m .words))
 unfolding block
 map-reads t m f = reads-by dfcmChosen t m f
 
-pub maps-whole : (t : ℕ) {ms : List Map} → Each Fit ms → Wholes (map (pieceOf t) ms)
-maps-whole t f = each-map (pieceOf t) (λ m h. map-reads t m h .whole) f
-
 -- a file of maps has the piece of each, however a map becomes a piece
 pub maps-piece : (piece : Map → Piece) (exam t : ℕ) (first : List Map) (m : Map) (rest : List Map) {b : List ℕ} {l : ℕ} → Holds b l (fileOfPieces exam t (map piece (first ++ m ∷ rest)))
     → HoldsPiece b l exam t (piece m)
 maps-piece piece exam t first m rest h = record { first = map piece first; rest = map piece rest; holds = rw map-append at h }
 
--- ---- maps that were packed before
+-- ---- maps that were packed by choices of their own
 
-pub maps-whole-by : (choice : Map → Choice) (t : ℕ) {ms : List Map} → Each Fit ms → Wholes (map (pieceBy choice t) ms)
-maps-whole-by choice t f = each-map (pieceBy choice t) (λ m h. reads-by (choice m) t m h .whole) f
+pub maps-whole : (choice : Map → Choice) (t : ℕ) {ms : List Map} → Each Fit ms → Wholes (map (pieceBy choice t) ms)
+maps-whole choice t f = each-map (pieceBy choice t) (λ m h. reads-by (choice m) t m h .whole) f
 
 module _ (choice : Map → Choice) (thrifty : (m : Map) → Thrifty (choice m)) (t : ℕ) where
   as-long : (m : Map) → length (blockBy (choice m) t (m .words)) ≡ length (block t (m .words))
@@ -92,8 +89,8 @@ module _ (choice : Map → Choice) (thrifty : (m : Map) → Thrifty (choice m)) 
       }
 
   -- where the rule makes a file of maps, a buffer with the file of these holds it
-  pub before-holds : (exam : ℕ) (ms : List Map) {b c : List ℕ} {l : ℕ} → Holds b l (fileOf exam t ms) → take l c ≡ fileBytes (fileBy choice exam t ms) → Holds c l (fileBy choice exam t ms)
-  before-holds exam ms {b} {c} {l} h e =
+  pub alike-holds : (exam : ℕ) (ms : List Map) {b c : List ℕ} {l : ℕ} → Holds b l (fileOf exam t ms) → take l c ≡ fileBytes (fileBy choice exam t ms) → Holds c l (fileBy choice exam t ms)
+  alike-holds exam ms {b} {c} {l} h e =
       record {
         within = omega (arith, ap length e, length-file (fileBy choice exam t ms), holds-length h, length-take l c, ap length (entries-alike 0 ms), body-alike ms);
         bytes = e;

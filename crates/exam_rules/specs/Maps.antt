@@ -25,7 +25,7 @@ fileOf exam t ms = fileOfPieces exam t (map (pieceOf t) ms)
 abbrev pub pieceBy : (Map → Choice) → ℕ → Map → Piece
 pieceBy choice t m = record { slot = m .slot; block = blockBy (choice m) t (m .words) }
 
--- the file of maps that were packed so: one that was made before, where some maps or all were packed by another choice than the rule's
+-- the file of maps that were packed so: one with maps that were packed before request L2, some or all
 abbrev pub fileBy : (Map → Choice) → ℕ → ℕ → List Map → File
 fileBy choice exam t ms = fileOfPieces exam t (map (pieceBy choice t) ms)
 

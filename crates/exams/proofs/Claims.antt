@@ -10,7 +10,7 @@ use Rattle.words.specs.Bytes.{Bytes}
 use Rattle.words.proofs.Each.{Each, none, each-more, each-at}
 use Rattle.answers.specs.Answers.{over}
 use Rattle.answers.proofs.Checks.{afterwards-new, afterwards-old}
-use Rattle.block_rules.specs.Codes.{Choice, dfcmChosenByBytes, Thrifty}
+use Rattle.block_rules.specs.Codes.{Choice, dfcmChosen, dfcmChosenByBytes, Thrifty}
 use Rattle.block_rules.specs.Block.{blockBy, block}
 use Rattle.block_rules.specs.Numbers.{blockNumber}
 use Rattle.block_rules.specs.declared.Unpacked.{Unpacked}
@@ -30,7 +30,7 @@ use Rattle.exam_rules.proofs.Accept.{OpenTakes, open-takes, takes-open, FindTak
 use Rattle.exam_rules.proofs.Answered.{open-in-one-of, find-one-of, fetch-one-of, create-one-of, append-one-of, replace-one-of}
 use Rattle.exam_rules.proofs.Holds.{Holds, holds-length, holds-parts, holds-opens, copied-holds}
 use Rattle.exam_rules.proofs.Pieces.{length-pieces, created-pieces, appended-pieces, block-fetched, piece-found, piece-block, piece-t}
-use Rattle.exam_rules.proofs.Maps.{Fit, reads-by, map-reads, maps-whole, maps-piece, maps-whole-by, before-holds, changed-at, changed-maps, changed-fit}
+use Rattle.exam_rules.proofs.Maps.{Fit, reads-by, map-reads, maps-whole, maps-piece, alike-holds, changed-at, changed-maps, changed-fit}
 use Rattle.exam_rules.proofs.Cut.{never-all-whole}
 use Rattle.exam_rules.proofs.Kept.{found-long, found-size, found-within, found-part, more-holds, more-opens, slot-kept, slot-new}
 use Rattle.exam_rules.proofs.Resized.{length-resized}
@@ -290,7 +290,7 @@ pub replace-is-afresh : (first : List Map) (m : Map) (rest : List Map) {exam t :
     → MadeOf exam t (first ++ record { slot = m .slot; words = words } ∷ rest) c k → (r .length ≡ k) × (take (r .length) b' ≡ take k c)
 replace-is-afresh first m rest h w q e afresh = made-alike (made-replaces first m rest h w q e) afresh
 
--- ---- files that were packed before, when dfcm was chosen by leading zero bytes
+-- ---- files that were packed before request L2, when dfcm was chosen by leading zero bytes
 
 -- A block that was packed before is fetched as its words: from any file that opens and has it in a slot, with tables of the file's 2 ^ t words.
 pub packed-before-fetches : (words : List ℕ) {b : List ℕ} {l exam slot : ℕ} {fcm dfcm room fcm' dfcm' room' : List ℕ} {r : Unpacked} → Words words → length words ≤ 65536
@@ -302,8 +302,8 @@ packed-before-fetches words {b} {l} {slot = slot} h few found is c lf ld enough 
     let reads = reads-by dfcmChosenByBytes t (record { slot = slot; words = words }) (record { few = few; wide = h }) in
     block-fetched t (blockBy dfcmChosenByBytes t words) found is refl reads c lf ld enough
 
--- The first l bytes of the buffer b are a file of maps that was made before, all of it or a part: each map was packed by the choice of its time. Create, appends
--- and replaces make a file of the same maps.
+-- The first l bytes of the buffer b are the file of maps of which some or all were packed before, each by a thrifty choice of its own. It is asked that the calls of
+-- today make a file of the same maps: so they are at most 1,024, their slots ascend, and they fit.
 pub record MadeBefore (exam t : ℕ) (ms : List Map) (b : List ℕ) (l : ℕ) : Type 0 where
   pub choice : Map → Choice
   pub thrifty : (m : Map) → Thrifty (choice m)
@@ -312,11 +312,25 @@ pub record MadeBefore (exam t : ℕ) (ms : List Map) (b : List ℕ) (l : ℕ) : 
   pub made : MadeOf exam t ms buffer l
 
 earlier-holds : {exam t : ℕ} {ms : List Map} {b : List ℕ} {l : ℕ} (k : MadeBefore exam t ms b l) → Holds b l (fileBy (k .choice) exam t ms)
-earlier-holds {exam} {t} {ms} k = before-holds (k .choice) (k .thrifty) t exam ms (made-holds (k .made)) (k .bytes)
+earlier-holds {exam} {t} {ms} k = alike-holds (k .choice) (k .thrifty) t exam ms (made-holds (k .made)) (k .bytes)
 
 -- Such a file opens for its exam number.
 pub earlier-opens : {exam t : ℕ} {ms : List Map} {b : List ℕ} {l : ℕ} → MadeBefore exam t ms b l → openedNumber (opened b l exam) ≡ 0
 earlier-opens {exam} {b = b} {l} k = opened-number b l exam ∙ holds-opens (earlier-holds k)
+
+-- What open then tells is its t and the number of its maps.
+pub earlier-tells : {exam t : ℕ} {ms : List Map} {b : List ℕ} {l : ℕ} → MadeBefore exam t ms b l → (openedT (opened b l exam) ≡ t) × (openedEntries (opened b l exam) ≡ length ms)
+earlier-tells {exam} {t} {ms} {b} {l} k =
+    let h = earlier-holds k in
+    let d = opened-done b l exam (holds-opens h) ∙ ap (λ (f : File). Done (trailerOf f)) (holds-parts h) in
+    (ap openedT d, ap openedEntries d ∙ length-pieces 0 (map (pieceBy (k .choice) t) ms) ∙ length-map ms (pieceBy (k .choice) t))
+
+-- Finding a slot of such a file hands back the block that was put there.
+pub earlier-finds : (first : List Map) (m : Map) (rest : List Map) {exam t : ℕ} {b : List ℕ} {l : ℕ} {part : List ℕ} {number : ℕ}
+    (k : MadeBefore exam t (first ++ m ∷ rest) b l) → Finds b l exam (m .slot) part number → (number ≡ 0) × (part ≡ blockBy (k .choice m) t (m .words))
+earlier-finds first m rest {exam} {t} k c =
+    let h = maps-piece (pieceBy (k .choice) t) exam t first m rest (earlier-holds k) in
+    (c .numberLeft ∙ piece-found h, c .answer ∙ afterwards-new _ _ [] (piece-found h) ∙ piece-block h)
 
 -- Fetching a slot of such a file gives back exactly the words that were put there, with tables of 2 ^ t words.
 pub earlier-fetches : (first : List Map) (m : Map) (rest : List Map) {exam t : ℕ} {b : List ℕ} {l : ℕ} {fcm dfcm room fcm' dfcm' room' : List ℕ} {r : Unpacked}
@@ -332,7 +346,7 @@ earlier-fetches first m rest {exam} {t} k c lf ld enough =
 pub earlier-cut-is-never-whole : {exam t : ℕ} {ms : List Map} {b : List ℕ} {l : ℕ} → MadeBefore exam t ms b l → (k : ℕ) → k < l → (c : List ℕ) → take k c ≡ take k b
     → (asked : ℕ) → openedNumber (opened c k asked) ≡ 0 → ((slot : ℕ) → findNumber c k asked slot ≡ 0 → blockNumber (blockIn c k slot) ≡ 0) → ⊥
 earlier-cut-is-never-whole {exam} {t} {ms} m k short c same asked e w =
-    never-all-whole exam t (map (pieceBy (m .choice) t) ms) (earlier-holds m) (maps-whole-by (m .choice) t (made-fit (m .made))) k asked short c same (sym (opened-number c k asked) ∙ e) w
+    never-all-whole exam t (map (pieceBy (m .choice) t) ms) (earlier-holds m) (maps-whole (m .choice) t (made-fit (m .made))) k asked short c same (sym (opened-number c k asked) ∙ e) w
 
 -- ---- a refusal leaves everything as it was
 
@@ -534,5 +548,6 @@ fetched-is-whole c e = fetch-accepts c .0 e .whole
 -- are never all whole; and fetch unpacks none that is not whole.
 pub cut-is-never-whole : {exam t : ℕ} {ms : List Map} {b : List ℕ} {l : ℕ} → MadeOf exam t ms b l → (k : ℕ) → k < l → (c : List ℕ) → take k c ≡ take k b
     → (asked : ℕ) → openedNumber (opened c k asked) ≡ 0 → ((slot : ℕ) → findNumber c k asked slot ≡ 0 → blockNumber (blockIn c k slot) ≡ 0) → ⊥
+unfolding block
 cut-is-never-whole {exam} {t} {ms} m k short c same asked e w =
-    never-all-whole exam t (map (pieceOf t) ms) (made-holds m) (maps-whole t (made-fit m)) k asked short c same (sym (opened-number c k asked) ∙ e) w
+    never-all-whole exam t (map (pieceOf t) ms) (made-holds m) (maps-whole (λ x. dfcmChosen) t (made-fit m)) k asked short c same (sym (opened-number c k asked) ∙ e) w

@@ -6,11 +6,11 @@ use Rattle.block_staging.proofs.Stage.{coded-word, word-staged}
 use Rattle.block_staging.proofs.stage_word.Statement.{statement}
 use Rattle.block_staging.proofs.stage_word.Tie as tie
 
-mul-by-fcm : tie.Need-mul-by-fcm
-mul-by-fcm c = search needs
+mul-fcm-predicts : tie.Need-mul-fcm-predicts
+mul-fcm-predicts c = search needs
 
-slice-read-by-fcm : tie.Need-slice-read-by-fcm
-slice-read-by-fcm c = search needs
+slice-read-fcm-predicts : tie.Need-slice-read-fcm-predicts
+slice-read-fcm-predicts c = search needs
 
 mul-wrapping-add-u64 : tie.Need-mul-wrapping-add-u64
 mul-wrapping-add-u64 c = search needs
@@ -51,8 +51,8 @@ pub stage-word-spec : {M : Type 1} → statement M
 stage-word-spec =
     tie.close
     (tie.spec
-    mul-by-fcm
-    slice-read-by-fcm
+    mul-fcm-predicts
+    slice-read-fcm-predicts
     mul-wrapping-add-u64
     slice-read-wrapping-add-u64
     wrapping-add-u64-requires
