@@ -33,6 +33,10 @@ use Rattle.coil.specs.Calls.{CoilOpens, CoilChecks, CoilPacks, CoilUnpac
 
 -- ---- there and back
 
+-- what unpacking answers, read through the lent numbers
+told : {r n k : ℕ} {A : Type 0} → _≡_ {A = Unpacked} (record { number = r; count = n }) (record { number = 0; count = k }) × A → (r ≡ 0) × (n ≡ k) × A
+told a = (ap (λ (x : Unpacked). x .number) (a .0), ap (λ (x : Unpacked). x .count) (a .0), a .1)
+
 -- Unpacking what coil_pack wrote, with tables of the same size whatever they hold, gives each word back bit for bit.
 pub coil-round-trip : {words fcm dfcm out f' d' out' f₂ d₂ room f₂' d₂' room' : List ℕ} {r l s n : ℕ}
     → Words words → CoilPacks words fcm dfcm out r f' d' out' l → r ≡ 0
@@ -40,25 +44,21 @@ pub coil-round-trip : {words fcm dfcm out f' d' out' f₂ d₂ room f₂' d₂' 
     → (s ≡ 0) × (n ≡ length words) × (room' ≡ over words room)
 coil-round-trip h p e q lf ld enough =
     let a = round-trip h p e q lf ld enough in
-    (ap (λ (x : Unpacked). x .number) (a .0), ap (λ (x : Unpacked). x .count) (a .0), a .1)
+    told (a .0, a .1)
 
 -- What coil_append stored coil_fetch gives back, bit for bit: from any file that opens, whoever made it, with tables of the same size whatever they hold.
 pub coil-append-fetches : {b : List ℕ} {l exam slot : ℕ} {words fcm dfcm bench b' f' d' bench' f₂ d₂ room f₂' d₂' room' : List ℕ} {r m s n : ℕ} → Bytes b → slot < 2 ^ 32 → Words words
     → CoilAppends b l exam slot words fcm dfcm bench r b' f' d' bench' m → r ≡ 0
     → CoilFetches b' m exam slot f₂ d₂ room s f₂' d₂' room' n → length f₂ ≡ length fcm → length d₂ ≡ length dfcm → length words ≤ length room
     → (s ≡ 0) × (n ≡ length words) × (room' ≡ over words room)
-coil-append-fetches h w v c e q lf ld enough =
-    let a = append-fetches h w v c e q lf ld enough in
-    (ap (λ (x : Unpacked). x .number) (a .0), ap (λ (x : Unpacked). x .count) (a .0), a .1)
+coil-append-fetches h w v c e q lf ld enough = told (append-fetches h w v c e q lf ld enough)
 
 -- So it gives back what coil_replace put in a slot's place.
 pub coil-replace-fetches : {b : List ℕ} {l exam slot : ℕ} {words fcm dfcm bench b' f' d' bench' f₂ d₂ room f₂' d₂' room' : List ℕ} {r m s n : ℕ} → Bytes b → Words words
     → CoilReplaces b l exam slot words fcm dfcm bench r b' f' d' bench' m → r ≡ 0
     → CoilFetches b' m exam slot f₂ d₂ room s f₂' d₂' room' n → length f₂ ≡ length fcm → length d₂ ≡ length dfcm → length words ≤ length room
     → (s ≡ 0) × (n ≡ length words) × (room' ≡ over words room)
-coil-replace-fetches h v c e q lf ld enough =
-    let a = replace-fetches h v c e q lf ld enough in
-    (ap (λ (x : Unpacked). x .number) (a .0), ap (λ (x : Unpacked). x .count) (a .0), a .1)
+coil-replace-fetches h v c e q lf ld enough = told (replace-fetches h v c e q lf ld enough)
 
 -- A file that coil_create made is one made by create, appends and replaces, with no map yet. (`copied` of MadeOf: so is every copy of such a file.)
 pub coil-create-makes : {b b' : List ℕ} {exam t r l : ℕ} → exam < 2 ^ 64 → CoilCreates b exam t r b' l → r ≡ 0 → MadeOf exam t [] b' l
@@ -98,9 +98,7 @@ pub coil-made-fetches : (first : List Map) (m : Map) (rest : List Map) {exam t :
     → MadeOf exam t (first ++ m ∷ rest) b l → CoilFetches b l exam (m .slot) fcm dfcm room r f' d' room' n
     → length fcm ≡ 2 ^ t → length dfcm ≡ 2 ^ t → length (m .words) ≤ length room
     → (r ≡ 0) × (n ≡ length (m .words)) × (room' ≡ over (m .words) room)
-coil-made-fetches first m rest k c lf ld enough =
-    let a = made-fetches first m rest k c lf ld enough in
-    (ap (λ (x : Unpacked). x .number) (a .0), ap (λ (x : Unpacked). x .count) (a .0), a .1)
+coil-made-fetches first m rest k c lf ld enough = told (made-fetches first m rest k c lf ld enough)
 
 -- where all blocks that coil_find finds pass coil_check, they are all whole
 all-whole : (c : List ℕ) (l asked : ℕ) → ((slot offset size : ℕ) → CoilFinds c l asked slot 0 offset size → CoilChecks (take size (drop offset c)) 0)
@@ -129,7 +127,7 @@ pub coil-packed-before-unpacks : (words : List ℕ) {fcm dfcm room f' d' room' :
     → (r ≡ 0) × (n ≡ length words) × (room' ≡ over words room)
 coil-packed-before-unpacks words k h few c enough =
     let a = packed-before-unpacks words k h few c enough in
-    (ap (λ (x : Unpacked). x .number) (a .0), ap (λ (x : Unpacked). x .count) (a .0), a .1)
+    told (a .0, a .1)
 
 -- coil_fetch gives them back from any file in which coil_find finds the block, with tables of the file's 2 ^ t words.
 pub coil-packed-before-fetches : (words : List ℕ) {b : List ℕ} {l exam slot offset size : ℕ} {fcm dfcm room f' d' room' : List ℕ} {r n : ℕ} → Words words → length words ≤ 65536
@@ -142,7 +140,7 @@ coil-packed-before-fetches words {b} {l} {exam} {slot} h few found is c lf ld en
     let o = ap (λ (x : Located). x .offset) found ∙ afterwards-new _ (entryOf slot (fileIn (take l b)) .offset) 0 z in
     let s = ap (λ (x : Located). x .size) found ∙ afterwards-new _ (entryOf slot (fileIn (take l b)) .size) 0 z in
     let a = packed-before-fetches words h few z (found-part b l exam slot z ∙ (rw (o, s) at is)) c lf ld enough in
-    (ap (λ (x : Unpacked). x .number) (a .0), ap (λ (x : Unpacked). x .count) (a .0), a .1)
+    told (a .0, a .1)
 
 -- coil_open opens a file that was made before for its exam number.
 pub coil-earlier-opens : {exam t : ℕ} {ms : List Map} {b : List ℕ} {l r : ℕ} → MadeBefore exam t ms b l → CoilOpens b l exam r → r ≡ 0
@@ -153,9 +151,7 @@ pub coil-earlier-fetches : (first : List Map) (m : Map) (rest : List Map) {exam 
     → MadeBefore exam t (first ++ m ∷ rest) b l → CoilFetches b l exam (m .slot) fcm dfcm room r f' d' room' n
     → length fcm ≡ 2 ^ t → length dfcm ≡ 2 ^ t → length (m .words) ≤ length room
     → (r ≡ 0) × (n ≡ length (m .words)) × (room' ≡ over (m .words) room)
-coil-earlier-fetches first m rest k c lf ld enough =
-    let a = earlier-fetches first m rest k c lf ld enough in
-    (ap (λ (x : Unpacked). x .number) (a .0), ap (λ (x : Unpacked). x .count) (a .0), a .1)
+coil-earlier-fetches first m rest k c lf ld enough = told (earlier-fetches first m rest k c lf ld enough)
 
 -- Nor are all blocks whole where such a file was cut and opens.
 pub coil-earlier-cut-is-never-whole : {exam t : ℕ} {ms : List Map} {b : List ℕ} {l : ℕ} → MadeBefore exam t ms b l → (k : ℕ) → k < l → (c : List ℕ) → take k c ≡ take k b

@@ -8,6 +8,7 @@ use lib.ListN.{length, getD, take, length-append}
 use lib.Seq.{getD-at, take-append-seam, drop-append-seam}
 use Rattle.words.proofs.Each.{Each}
 use Rattle.answers.specs.Answers.{over}
+use Rattle.answers.proofs.Checks.{afterwards-new}
 use Rattle.block_rules.specs.Block.{block, count, wordsIn}
 use Rattle.block_rules.specs.Numbers.{blockNumber}
 use Rattle.block_rules.specs.declared.Unpacked.{Unpacked}
@@ -15,12 +16,13 @@ use Rattle.block_rules.proofs.Accept.{unpacked-of, where-all}
 use Rattle.exam_rules.specs.File.{Entry, entry, File, blockOf, appended}
 use Rattle.exam_rules.specs.Reading.{fileIn, indexOf, entryOf}
 use Rattle.exam_rules.specs.Numbers.{findNumber, blockIn}
-use Rattle.exam_rules.specs.Calls.{Fetches, Creates, Appends}
+use Rattle.exam_rules.specs.Calls.{trailerOf, opened, openedT, openedEntries, Finds, Fetches, Creates, Appends}
 use Rattle.exam_rules.specs.Pieces.{Piece, blocksOf, entriesOf, fileOfPieces}
 use Rattle.exam_rules.specs.declared.Made.{Made}
+use Rattle.exam_rules.specs.declared.Opened.the-variants.{Done}
 use Rattle.exam_rules.proofs.Directory.{index-of-entry}
 use Rattle.exam_rules.proofs.Changes.{changes-number}
-use Rattle.exam_rules.proofs.Accept.{find-passes, find-takes, takes-fetch, create-takes, fetches-number}
+use Rattle.exam_rules.proofs.Accept.{find-passes, find-takes, takes-fetch, create-takes, opened-done, fetches-number}
 use Rattle.exam_rules.proofs.Holds.{good-empty, Holds, changed-holds, holds-parts, holds-opens, appended-holds}
 
 -- ---- pieces and then pieces
@@ -110,14 +112,29 @@ module _ {b : List ℕ} {l exam t : ℕ} {p : Piece} (h : HoldsPiece b l exam t 
   slot-index = rw (entry-at its) at (index-of-entry file (length (h .first)) its (h .holds .good .directory) below)
 
   -- its slot is found
-  pub piece-found : findNumber b l exam (p .slot) ≡ 0
+  piece-found : findNumber b l exam (p .slot) ≡ 0
   piece-found = find-passes b l exam (p .slot) (holds-opens (h .holds)) (rw (holds-parts (h .holds), slot-index) below)
 
   -- its block is the piece's
-  pub piece-block : blockIn b l (p .slot) ≡ p .block
+  piece-block : blockIn b l (p .slot) ≡ p .block
   unfolding blockIn blockOf entryOf
   piece-block = rw (holds-parts (h .holds), slot-index, entry-at _, blocks-append (h .first) (p ∷ h .rest), drop-append-seam) (take-append-seam (p .block) (blocksOf (h .rest)))
 
   -- the file's t
-  pub piece-t : fileIn (take l b) .t ≡ t
+  piece-t : fileIn (take l b) .t ≡ t
   piece-t = ap (λ (x : File). x .t) (holds-parts (h .holds))
+
+  -- finding its slot hands back its block
+  pub piece-handed : {part : List ℕ} {number : ℕ} → Finds b l exam (p .slot) part number → (number ≡ 0) × (part ≡ p .block)
+  piece-handed c = (c .numberLeft ∙ piece-found, c .answer ∙ afterwards-new _ _ [] piece-found ∙ piece-block)
+
+  -- fetching its slot gives the words that its block reads as
+  pub piece-fetched : {words fcm dfcm room fcm' dfcm' room' : List ℕ} {r : Unpacked} → ReadsAs t (p .block) words → Fetches b l exam (p .slot) fcm dfcm room r fcm' dfcm' room'
+      → length fcm ≡ 2 ^ t → length dfcm ≡ 2 ^ t → length words ≤ length room → (r ≡ record { number = 0; count = length words }) × (room' ≡ over words room)
+  piece-fetched s c lf ld enough = block-fetched t (p .block) piece-found piece-block piece-t s c lf ld enough
+
+-- opening the file of pieces tells its t and their number
+pub pieces-tell : (exam t : ℕ) (ps : List Piece) {b : List ℕ} {l : ℕ} → Holds b l (fileOfPieces exam t ps) → (openedT (opened b l exam) ≡ t) × (openedEntries (opened b l exam) ≡ length ps)
+pieces-tell exam t ps {b} {l} h =
+    let d = opened-done b l exam (holds-opens h) ∙ ap (λ (f : File). Done (trailerOf f)) (holds-parts h) in
+    (ap openedT d, ap openedEntries d ∙ length-pieces 0 ps)

@@ -17,7 +17,7 @@ use Rattle.block_rules.specs.declared.Unpacked.{Unpacked}
 use Rattle.exam_rules.specs.File.{entry, File, fileLength, fileBytes, appended, replaced}
 use Rattle.exam_rules.specs.Reading.{tIn, examIn, distanceIn, entriesIn, lengthIn, fileIn, entryOf}
 use Rattle.exam_rules.specs.Numbers.{openInNumber, findNumber, blockIn}
-use Rattle.exam_rules.specs.Calls.{trailerOf, opened, openedNumber, openedT, openedEntries, openedStart, Finds, located, Fetches, Creates, appendsNumber, Appends, replacesNumber, Replaces}
+use Rattle.exam_rules.specs.Calls.{opened, openedNumber, openedT, openedEntries, openedStart, Finds, located, Fetches, Creates, appendsNumber, Appends, replacesNumber, Replaces}
 use Rattle.exam_rules.specs.Maps.{Map, pieceOf, fileOf, pieceBy, fileBy, changed}
 use Rattle.exam_rules.specs.declared.Located.{Located}
 use Rattle.exam_rules.specs.declared.Made.{Made}
@@ -29,7 +29,7 @@ use Rattle.exam_rules.proofs.Changes.{change-one-answer, changes-number, change
 use Rattle.exam_rules.proofs.Accept.{OpenTakes, open-takes, takes-open, FindTakes, find-takes, takes-find, FetchTakes, fetch-takes, takes-fetch, takes-create, AppendTakes, append-takes, takes-append, ReplaceTakes, replace-takes, takes-replace, opened-number, opened-done, fetches-number, CreateTakes, create-takes}
 use Rattle.exam_rules.proofs.Answered.{open-in-one-of, find-one-of, fetch-one-of, create-one-of, append-one-of, replace-one-of}
 use Rattle.exam_rules.proofs.Holds.{Holds, holds-length, holds-parts, holds-opens, copied-holds}
-use Rattle.exam_rules.proofs.Pieces.{length-pieces, created-pieces, appended-pieces, block-fetched, piece-found, piece-block, piece-t}
+use Rattle.exam_rules.proofs.Pieces.{created-pieces, appended-pieces, block-fetched, piece-handed, piece-fetched, pieces-tell}
 use Rattle.exam_rules.proofs.Maps.{Fit, reads-by, map-reads, maps-whole, maps-piece, alike-holds, changed-at, changed-maps, changed-fit}
 use Rattle.exam_rules.proofs.Cut.{never-all-whole}
 use Rattle.exam_rules.proofs.Kept.{found-long, found-size, found-within, found-part, more-holds, more-opens, slot-kept, slot-new}
@@ -242,10 +242,9 @@ made-opens {exam} {b = b} {l} m = opened-number b l exam ∙ holds-opens (made-h
 
 -- What open then tells is its t and the number of its maps.
 pub made-tells : {exam t : ℕ} {ms : List Map} {b : List ℕ} {l : ℕ} → MadeOf exam t ms b l → (openedT (opened b l exam) ≡ t) × (openedEntries (opened b l exam) ≡ length ms)
-made-tells {exam} {t} {ms} {b} {l} m =
-    let h = made-holds m in
-    let d = opened-done b l exam (holds-opens h) ∙ ap (λ (f : File). Done (trailerOf f)) (holds-parts h) in
-    (ap openedT d, ap openedEntries d ∙ length-pieces 0 (map (pieceOf t) ms) ∙ length-map ms (pieceOf t))
+made-tells {exam} {t} {ms} m =
+    let told = pieces-tell exam t (map (pieceOf t) ms) (made-holds m) in
+    (told .0, told .1 ∙ length-map ms (pieceOf t))
 
 made-fit : {exam t : ℕ} {ms : List Map} {b : List ℕ} {l : ℕ} → MadeOf exam t ms b l → Each Fit ms
 made-fit (created w c e) = none
@@ -256,9 +255,7 @@ made-fit (copied h e) = made-fit h
 -- Finding a slot of such a file hands back the block of the words that its list has for the slot: those that were put there last.
 pub made-finds : (first : List Map) (m : Map) (rest : List Map) {exam t : ℕ} {b : List ℕ} {l : ℕ} {part : List ℕ} {number : ℕ}
     → MadeOf exam t (first ++ m ∷ rest) b l → Finds b l exam (m .slot) part number → (number ≡ 0) × (part ≡ block t (m .words))
-made-finds first m rest {exam} {t} k c =
-    let h = maps-piece (pieceOf t) exam t first m rest (made-holds k) in
-    (c .numberLeft ∙ piece-found h, c .answer ∙ afterwards-new _ _ [] (piece-found h) ∙ piece-block h)
+made-finds first m rest {exam} {t} k c = piece-handed (maps-piece (pieceOf t) exam t first m rest (made-holds k)) c
 
 -- Fetching a slot of such a file gives back exactly the words that were put there last: with tables of 2 ^ t words, whatever they hold, and whatever
 -- else the file holds.
@@ -267,8 +264,7 @@ pub made-fetches : (first : List Map) (m : Map) (rest : List Map) {exam t : ℕ}
     → length fcm ≡ 2 ^ t → length dfcm ≡ 2 ^ t → length (m .words) ≤ length room
     → (r ≡ record { number = 0; count = length (m .words) }) × (room' ≡ over (m .words) room)
 made-fetches first m rest {exam} {t} k c lf ld enough =
-    let h = maps-piece (pieceOf t) exam t first m rest (made-holds k) in
-    block-fetched t (block t (m .words)) (piece-found h) (piece-block h) (piece-t h) (map-reads t m (each-at first m rest (made-fit k))) c lf ld enough
+    piece-fetched (maps-piece (pieceOf t) exam t first m rest (made-holds k)) (map-reads t m (each-at first m rest (made-fit k))) c lf ld enough
 
 -- Where the words of a map of such a file are replaced, it is made of the changed list: every other map is the one it was, in its place.
 pub made-replaces : (first : List Map) (m : Map) (rest : List Map) {exam t : ℕ} {b : List ℕ} {l : ℕ} {words fcm dfcm bench b' fcm' dfcm' bench' : List ℕ} {r : Made}
@@ -320,17 +316,14 @@ earlier-opens {exam} {b = b} {l} k = opened-number b l exam ∙ holds-opens (ear
 
 -- What open then tells is its t and the number of its maps.
 pub earlier-tells : {exam t : ℕ} {ms : List Map} {b : List ℕ} {l : ℕ} → MadeBefore exam t ms b l → (openedT (opened b l exam) ≡ t) × (openedEntries (opened b l exam) ≡ length ms)
-earlier-tells {exam} {t} {ms} {b} {l} k =
-    let h = earlier-holds k in
-    let d = opened-done b l exam (holds-opens h) ∙ ap (λ (f : File). Done (trailerOf f)) (holds-parts h) in
-    (ap openedT d, ap openedEntries d ∙ length-pieces 0 (map (pieceBy (k .choice) t) ms) ∙ length-map ms (pieceBy (k .choice) t))
+earlier-tells {exam} {t} {ms} k =
+    let told = pieces-tell exam t (map (pieceBy (k .choice) t) ms) (earlier-holds k) in
+    (told .0, told .1 ∙ length-map ms (pieceBy (k .choice) t))
 
 -- Finding a slot of such a file hands back the block that was put there.
 pub earlier-finds : (first : List Map) (m : Map) (rest : List Map) {exam t : ℕ} {b : List ℕ} {l : ℕ} {part : List ℕ} {number : ℕ}
     (k : MadeBefore exam t (first ++ m ∷ rest) b l) → Finds b l exam (m .slot) part number → (number ≡ 0) × (part ≡ blockBy (k .choice m) t (m .words))
-earlier-finds first m rest {exam} {t} k c =
-    let h = maps-piece (pieceBy (k .choice) t) exam t first m rest (earlier-holds k) in
-    (c .numberLeft ∙ piece-found h, c .answer ∙ afterwards-new _ _ [] (piece-found h) ∙ piece-block h)
+earlier-finds first m rest {exam} {t} k c = piece-handed (maps-piece (pieceBy (k .choice) t) exam t first m rest (earlier-holds k)) c
 
 -- Fetching a slot of such a file gives back exactly the words that were put there, with tables of 2 ^ t words.
 pub earlier-fetches : (first : List Map) (m : Map) (rest : List Map) {exam t : ℕ} {b : List ℕ} {l : ℕ} {fcm dfcm room fcm' dfcm' room' : List ℕ} {r : Unpacked}
@@ -338,9 +331,8 @@ pub earlier-fetches : (first : List Map) (m : Map) (rest : List Map) {exam t : �
     → length fcm ≡ 2 ^ t → length dfcm ≡ 2 ^ t → length (m .words) ≤ length room
     → (r ≡ record { number = 0; count = length (m .words) }) × (room' ≡ over (m .words) room)
 earlier-fetches first m rest {exam} {t} k c lf ld enough =
-    let h = maps-piece (pieceBy (k .choice) t) exam t first m rest (earlier-holds k) in
     let reads = reads-by (k .choice m) t m (each-at first m rest (made-fit (k .made))) in
-    block-fetched t (blockBy (k .choice m) t (m .words)) (piece-found h) (piece-block h) (piece-t h) reads c lf ld enough
+    piece-fetched (maps-piece (pieceBy (k .choice) t) exam t first m rest (earlier-holds k)) reads c lf ld enough
 
 -- Cut such a file anywhere: where what is left opens, the blocks of its slots are never all whole.
 pub earlier-cut-is-never-whole : {exam t : ℕ} {ms : List Map} {b : List ℕ} {l : ℕ} → MadeBefore exam t ms b l → (k : ℕ) → k < l → (c : List ℕ) → take k c ≡ take k b
