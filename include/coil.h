@@ -156,7 +156,8 @@ extern "C" {
  *   length             becomes the length of the block in bytes
  *
  * Checks in order: 1 tables; 2 more than 65,536 words; 3 out_len under COIL_WORST(words_len).
- * On success the first *length bytes of out are the block and the rest of out is as it was. */
+ * On success the first *length bytes of out are the block and the rest of out is as it was. No block is shorter: any
+ * bytes that coil_unpack takes, with tables of the same size, and that give the same words, are at least as many. */
 uint32_t coil_pack(const uint64_t *words, size_t words_len,
                    uint64_t *fcm, size_t fcm_len, uint64_t *dfcm, size_t dfcm_len,
                    uint8_t *out, size_t out_len, size_t *length);

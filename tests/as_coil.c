@@ -12,7 +12,9 @@
 #define ref_fetch coil_fetch
 #define ref_append coil_append
 #define ref_replace coil_replace
-#define ref_pack_before coil_pack_before   /* of the reference alone */
+/* of the reference alone */
+#define ref_pack_before coil_pack_before
+#define ref_pack_as coil_pack_as
 
 #ifndef REFERENCE_SOURCE
 #define REFERENCE_SOURCE "reference.c"

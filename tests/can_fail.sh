@@ -1,5 +1,6 @@
 #!/usr/bin/env bash
-# Shows that compare can fail: each slip of slips.sh, built as the library, must be seen by it.
+# Shows that compare can fail: each slip of slips.sh, built as the library, must be seen by it. So must a slip that both
+# sides make, the library and the reference, where the tests ask for more than that both are equal.
 #
 #     tests/can_fail.sh
 #
@@ -12,7 +13,7 @@ compiler=${CC:-cc}
 runner=()
 flags=(-std=c99 -I "$tests/../include" -I "$tests")
 parts=(compare calls lent words inputs group_blocks group_before group_files group_replace group_order group_damage
-    group_far reference)
+    group_far group_shortest)
 at_once=2
 
 if ! command -v "$compiler" >/dev/null; then
@@ -25,25 +26,25 @@ if ! command -v "$compiler" >/dev/null; then
 fi
 rm -rf "$build"
 mkdir -p "$build"
-for part in "${parts[@]}"; do
+for part in "${parts[@]}" reference; do
     "$compiler" "${flags[@]}" -O1 -Wall -Wextra -Wpedantic -Werror \
         -c "$tests/$part.c" -o "$build/$part.o" || exit 1
 done
 objects=("${parts[@]/#/$build/}")
 objects=("${objects[@]/%/.o}")
 
-# Builds one stand-in library from a source and compares it, beginning with a group of comparisons. 0: compare passed,
-# 1: failed, 2: not built.
+# Builds one stand-in library from a source and compares it with a reference, an object or a source, beginning with a
+# group of comparisons. 0: compare passed, 1: failed, 2: not built.
 try() {
-    local name=$1 source=$2 begin=$3
+    local name=$1 source=$2 reference=$3 begin=$4
     "$compiler" "${flags[@]}" -w -DREFERENCE_SOURCE="\"$source\"" -c "$tests/as_coil.c" -o "$build/$name.o" &&
-        "$compiler" "${flags[@]}" "${objects[@]}" "$build/$name.o" -o "$build/$name" || return 2
+        "$compiler" "${flags[@]}" -w "${objects[@]}" "$reference" "$build/$name.o" -o "$build/$name" || return 2
     "${runner[@]}" "$build/$name" 1 1 first "$begin" >"$build/$name.log" 2>&1 && return 0
     grep -q FAILED "$build/$name.log" && return 1
     return 2
 }
 
-if ! try without_slip "$tests/reference.c" blocks; then
+if ! try without_slip "$tests/reference.c" "$build/reference.o" blocks; then
     echo "FAILED can_fail: the reference without a slip does not pass"
     exit 1
 fi
@@ -57,13 +58,15 @@ group_of() {
         create:* | append:* | find:* | fetch:*) echo files ;;
         open:*) echo damage ;;
         replace:*) echo replace ;;
+        both:*) echo shortest ;;
         *) echo blocks ;;
     esac
 }
 
 try_slip() {
-    local number=$1 title=$2 result
-    try "slip$number" "$build/slip$number.c" "$(group_of "$title")"
+    local number=$1 title=$2 reference=$build/reference.o result
+    [[ $title == both:* ]] && reference=$build/slip$number.c
+    try "slip$number" "$build/slip$number.c" "$reference" "$(group_of "$title")"
     case $? in
         1) result=seen ;;
         0) result="NOT SEEN" ;;

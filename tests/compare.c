@@ -29,7 +29,8 @@ static const group groups[] = {
     { "damage", group_damage, "every bit flipped, every cut, changed and forged fields" },
     { "replace", group_replace, "lives with replaces, made afresh again; every size, place, distance and room" },
     { "order", group_order, "several rules broken at once, in every combination" },
-    { "far", group_far, "65,536 words, 1,024 entries, 16 MiB, lengths beyond 32 bits" }
+    { "far", group_far, "65,536 words, 1,024 entries, 16 MiB, lengths beyond 32 bits" },
+    { "shortest", group_shortest, "rival blocks of the same words, and short blocks with every list of codes: none is shorter" }
 };
 
 /* A call that touches memory it was not lent ends here. Only calls that are safe in a handler. */
@@ -71,7 +72,7 @@ static void run_group(const group *g, unsigned rounds)
 {
     unsigned long before = comparisons();
     g->run(rounds);
-    printf("  %-7s %8lu comparisons  %s\n", g->name, comparisons() - before, g->about);
+    printf("  %-8s %8lu comparisons  %s\n", g->name, comparisons() - before, g->about);
     fflush(stdout);
 }
 

@@ -9,5 +9,6 @@ void group_damage(unsigned rounds);
 void group_replace(unsigned rounds);
 void group_order(unsigned rounds);
 void group_far(unsigned rounds);
+void group_shortest(unsigned rounds);
 
 #endif

@@ -119,9 +119,6 @@ static unsigned leading_zero_bytes(uint64_t residual)
     return zero_bytes;
 }
 
-/* Whether dfcm is chosen. */
-typedef int choice(uint64_t fcm_residual, uint64_t dfcm_residual);
-
 /* The rule. */
 static int more_zero_bits(uint64_t fcm_residual, uint64_t dfcm_residual)
 {
@@ -138,6 +135,11 @@ static int more_zero_bytes(uint64_t fcm_residual, uint64_t dfcm_residual)
 static const unsigned code_low_bits[9] = { 0, 1, 2, 3, 3, 4, 5, 6, 7 };
 /* low bits:                               0  1  2  3  4  5  6  7 */
 static const unsigned bytes_written[8] = { 8, 7, 6, 5, 3, 2, 1, 0 };
+
+static unsigned low_bits_for(uint64_t residual)
+{
+    return code_low_bits[leading_zero_bytes(residual)];
+}
 
 #define DFCM_BIT 8u
 #define FILLER 7u
@@ -210,7 +212,7 @@ static uint32_t refuse_block(const uint8_t *block, size_t block_len, uint64_t *c
 /* Writes the block of the words into a room of at least worst_length bytes, all zero, and answers its
  * length. */
 static size_t write_block(uint8_t *block, const uint64_t *words, size_t words_len, predictors *p,
-                          choice *dfcm_chosen)
+                          ref_choice *dfcm_chosen, ref_low_bits *low_bits_of)
 {
     uint64_t at = BLOCK_HEADER + code_bytes(words_len);
     for (size_t i = 0; i < words_len; i++) {
@@ -218,7 +220,7 @@ static size_t write_block(uint8_t *block, const uint64_t *words, size_t words_le
         uint64_t dfcm_residual = words[i] ^ dfcm_prediction(p);
         int dfcm_is_chosen = dfcm_chosen(fcm_residual, dfcm_residual);
         uint64_t residual = dfcm_is_chosen ? dfcm_residual : fcm_residual;
-        unsigned low_bits = code_low_bits[leading_zero_bytes(residual)];
+        unsigned low_bits = low_bits_of(residual);
         write_code(block, i, low_bits + (dfcm_is_chosen ? DFCM_BIT : 0));
         write_field(block + at, bytes_written[low_bits], residual);
         at += bytes_written[low_bits];
@@ -245,16 +247,22 @@ static void read_block(const uint8_t *block, uint64_t count, uint64_t *words, pr
 }
 
 /* Packs after every check has passed: fills the tables and the first bytes of out. */
-static size_t pack_now(const uint64_t *words, size_t words_len, uint64_t *fcm, uint64_t *dfcm,
-                       size_t entries, uint8_t *out, choice *dfcm_chosen)
+size_t ref_pack_as(const uint64_t *words, size_t words_len, uint64_t *fcm, uint64_t *dfcm, size_t entries,
+                   uint8_t *out, ref_choice *dfcm_chosen, ref_low_bits *low_bits_of)
 {
     predictors p = start_predictors(entries);
     uint8_t *block = room_for(worst_length(words_len));
-    size_t length = write_block(block, words, words_len, &p, dfcm_chosen);
+    size_t length = write_block(block, words, words_len, &p, dfcm_chosen, low_bits_of);
     memcpy(out, block, length);
     free(block);
     hand_over_tables(&p, fcm, dfcm);
     return length;
+}
+
+static size_t pack_now(const uint64_t *words, size_t words_len, uint64_t *fcm, uint64_t *dfcm,
+                       size_t entries, uint8_t *out, ref_choice *dfcm_chosen)
+{
+    return ref_pack_as(words, words_len, fcm, dfcm, entries, out, dfcm_chosen, low_bits_for);
 }
 
 /* ---- Calls on a block ---- */

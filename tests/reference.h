@@ -20,6 +20,15 @@ uint32_t ref_pack(const uint64_t *words, size_t words_len,
 size_t ref_pack_before(const uint64_t *words, size_t words_len, uint64_t *fcm, uint64_t *dfcm,
                        size_t entries, uint8_t *out);
 
+/* Whether dfcm is chosen; and the low three bits of the code of the chosen residual. */
+typedef int ref_choice(uint64_t fcm_residual, uint64_t dfcm_residual);
+typedef unsigned ref_low_bits(uint64_t residual);
+
+/* Writes a block of words as a rival would: by any choice, and with low bits that leave room for the residual. The
+ * choice is asked once for each word, in order. The rest is as in ref_pack_before. */
+size_t ref_pack_as(const uint64_t *words, size_t words_len, uint64_t *fcm, uint64_t *dfcm, size_t entries,
+                   uint8_t *out, ref_choice *dfcm_chosen, ref_low_bits *low_bits_of);
+
 uint32_t ref_unpack(const uint8_t *block, size_t block_len,
                     uint64_t *fcm, size_t fcm_len, uint64_t *dfcm, size_t dfcm_len,
                     uint64_t *words, size_t words_len, size_t *count);

@@ -1,6 +1,7 @@
 # Wrong versions of reference.c, read by can_fail.sh: slip NAME RIGHT WRONG
 #
-# Each slip is one change: the text RIGHT, which must stand in reference.c exactly once, becomes WRONG.
+# Each slip is one change: the text RIGHT, which must stand in reference.c exactly once, becomes WRONG. Where the name
+# begins with "both:", the reference that the library is compared with makes the slip too.
 # shellcheck shell=bash disable=SC2016
 
 # ---- Packers that would be easy to write and useless
@@ -9,8 +10,8 @@ slip "packer refuses everything" 'if (words_len > MOST_WORDS) {
     }
     if (out_len' 'return 3;
     if (out_len'
-slip "packer answers one fixed block" 'write_block(block, words, words_len, &p, dfcm_chosen);' \
-    'write_block(block, words, 0, &p, dfcm_chosen);'
+slip "packer answers one fixed block" 'write_block(block, words, words_len, &p, dfcm_chosen, low_bits_of);' \
+    'write_block(block, words, 0, &p, dfcm_chosen, low_bits_of);'
 slip "packer writes nothing" 'memcpy(out, block, length);' ''
 slip "only the first word is predicted" 'int dfcm_is_chosen = dfcm_chosen' \
     'if (i > 0) { fcm_residual = dfcm_residual = words[i]; } int dfcm_is_chosen = dfcm_chosen'
@@ -41,8 +42,8 @@ slip "bytes compared in place of bits" \
     'leading_zero_bytes(dfcm_residual) > leading_zero_bytes(fcm_residual)'
 slip "residuals compared in place of bits" \
     'leading_zero_bits(dfcm_residual) > leading_zero_bits(fcm_residual)' 'dfcm_residual < fcm_residual'
-slip "low bits of the residual that was left" 'code_low_bits[leading_zero_bytes(residual)]' \
-    'code_low_bits[leading_zero_bytes(dfcm_is_chosen ? fcm_residual : dfcm_residual)]'
+slip "low bits of the residual that was left" 'low_bits_of(residual)' \
+    'low_bits_of(dfcm_is_chosen ? fcm_residual : dfcm_residual)'
 slip "dfcm never chosen" 'int dfcm_is_chosen = dfcm_chosen' 'int dfcm_is_chosen = 0 && dfcm_chosen'
 
 # ---- Tables
@@ -479,3 +480,8 @@ slip "replace: bench not filled" 'size_t new_size = pack_now(words, words_len, f
     'uint8_t *own = room_for(worst_length(words_len));
     size_t new_size = pack_now(words, words_len, fcm, dfcm, fcm_len, own, more_zero_bits);
     *new_length = put_block_in_place(file, length, &found, index, own, new_size);'
+
+# ---- Slips of both sides: a packer whose blocks come back, and are longer than they need be
+slip "both: the residual with fewer zero bits chosen" 'leading_zero_bits(dfcm_residual) > ' \
+    'leading_zero_bits(dfcm_residual) < '
+slip "both: a zero byte given away" '{ 0, 1, 2, 3, 3, 4, 5, 6, 7 }' '{ 0, 0, 1, 2, 3, 4, 5, 6, 7 }'

@@ -13,7 +13,7 @@ use Rattle.words.proofs.Tests.{either}
 use Rattle.answers.proofs.Checks.{unless-passes, unless-fails, unless-holds, all-pass, fails-here, fails-later, none-fails, afterwards-new, afterwards-old}
 use Rattle.block_rules.specs.Block.{block, count, statedLength, residualsAt, countedCodes, lastHalf, residualLength}
 use Rattle.block_rules.specs.Calls.{packed, packsNumber, Packs, checked, unpacked, UnpacksWhere}
-use Rattle.block_rules.specs.Numbers.{packNumber, fillerStands, blockNumber, unpackNumber, tOf}
+use Rattle.block_rules.specs.Numbers.{packNumber, fillerStands, formNumber, blockNumber, unpackNumber, tOf}
 use Rattle.block_rules.specs.Inside.{Packable, PacksAll, Counted, Unpackable, UnpacksAll}
 use Rattle.block_rules.specs.declared.Packed.{Packed}
 use Rattle.block_rules.specs.declared.Unpacked.{Unpacked}
@@ -59,7 +59,7 @@ pack-done ws f d out f' d' out' k z p =
 
 -- ---- check
 
--- what it tells of a block that nothing fails
+-- what a well-formed block has
 pub record Whole (b : List ℕ) : Type 0 where
   pub long : 8 ≤ length b
   pub few : count b ≤ 65536
@@ -67,9 +67,9 @@ pub record Whole (b : List ℕ) : Type 0 where
   pub adds : length b ≡ residualsAt (count b) + residualLength (countedCodes b)
   pub filler : fillerStands b ≡ true
 
-pub whole : (b : List ℕ) → blockNumber b ≡ 0 → Whole b
-unfolding blockNumber
-whole b e =
+pub form-tells : (b : List ℕ) → formNumber b ≡ 0 → Whole b
+unfolding formNumber
+form-tells b e =
     let a = none-fails _ _ e in
     let c = none-fails _ _ (a .1) in
     let d = none-fails _ _ (c .1) in
@@ -83,8 +83,16 @@ whole b e =
       filler = unless-holds _ _ (none-fails _ _ (f .1) .0) (omega arith);
     }
 
-pub whole-checks : (b : List ℕ) → Whole b → blockNumber b ≡ 0
+-- a block that check takes is well-formed
+pub takes-form : (b : List ℕ) → blockNumber b ≡ 0 → formNumber b ≡ 0
 unfolding blockNumber
+takes-form b e = e
+
+pub whole : (b : List ℕ) → blockNumber b ≡ 0 → Whole b
+whole b e = form-tells b (takes-form b e)
+
+pub whole-checks : (b : List ℕ) → Whole b → blockNumber b ≡ 0
+unfolding blockNumber formNumber
 whole-checks b w =
     sym
     (fails-later _ _ _ (unless-passes _ _ (le-leb _ _ (w .long)))
@@ -104,19 +112,19 @@ filler-has b h = either (eqb (count b % 2) 1) (λ e. rw (e, eq-eqb _ _ (h (eqb-t
 -- the checks one by one, as code makes them
 module _ (b : List ℕ) where
   pub too-short : length b < 8 → 4 ≡ blockNumber b
-  unfolding blockNumber
+  unfolding blockNumber formNumber
   too-short h = fails-here _ _ _ (unless-fails _ _ (lt-leb _ _ h)) (λ e. omega arith)
 
   module _ (n : ℕ) (long : 8 ≤ length b) (e : n ≡ count b) where
     pub too-many : 65536 < n → 2 ≡ blockNumber b
-    unfolding blockNumber
+    unfolding blockNumber formNumber
     too-many h =
         fails-later _ _ _ (unless-passes _ _ (le-leb _ _ long))
         (fails-here _ _ _ (unless-fails _ _ (lt-leb (count b) 65536 (omega arith))) (λ z. omega arith))
 
     module _ (few : n ≤ 65536) (s : ℕ) (q : s ≡ statedLength b) where
       pub misstated : (s ≡ length b → ⊥) → 5 ≡ blockNumber b
-      unfolding blockNumber
+      unfolding blockNumber formNumber
       misstated h =
           fails-later _ _ _ (unless-passes _ _ (le-leb _ _ long))
           (fails-later _ _ _ (unless-passes _ _ (le-leb (count b) 65536 (omega arith)))
@@ -124,7 +132,7 @@ module _ (b : List ℕ) where
 
       module _ (stated : s ≡ length b) where
         pub uneven : (length b ≡ residualsAt n + residualLength (countedCodes b) → ⊥) → 5 ≡ blockNumber b
-        unfolding blockNumber
+        unfolding blockNumber formNumber
         uneven h =
             fails-later _ _ _ (unless-passes _ _ (le-leb _ _ long))
             (fails-later _ _ _ (unless-passes _ _ (le-leb (count b) 65536 (omega arith)))
@@ -134,7 +142,7 @@ module _ (b : List ℕ) where
 
         module _ (adds : length b ≡ residualsAt n + residualLength (countedCodes b)) where
           pub unfilled : fillerStands b ≡ false → 6 ≡ blockNumber b
-          unfolding blockNumber
+          unfolding blockNumber formNumber
           unfilled h =
               fails-later _ _ _ (unless-passes _ _ (le-leb _ _ long))
               (fails-later _ _ _ (unless-passes _ _ (le-leb (count b) 65536 (omega arith)))
@@ -160,10 +168,11 @@ too-short-for-codes b h few l =
     (λ e. uneven b (count b) h refl few (statedLength b) refl (eqb-true _ _ e) (λ z. omega arith))
     (λ e. misstated b (count b) h refl few (statedLength b) refl (eqb-false _ _ e))
 
+pub whole-counted : (b : List ℕ) (n : ℕ) → Whole b → n ≡ count b → Counted b n
+whole-counted b n w c = record { count = c; few = rw c (w .few); codes = rw c (omega (arith, w .adds)) }
+
 pub counted : (b : List ℕ) (n : ℕ) → blockNumber b ≡ 0 → n ≡ count b → Counted b n
-counted b n e c =
-    let w = whole b e in
-    record { count = c; few = rw c (w .few); codes = rw c (omega (arith, w .adds)) }
+counted b n e c = whole-counted b n (whole b e) c
 
 -- ---- unpack
 

@@ -3,7 +3,7 @@ use mathlib.Core.Path.{refl}
 use mathlib.Core.List.{List, [], _∷_, List·Mem}
 use Prim.Native.Nat.{ℕ}
 use Rattle.answers.proofs.OneOf.{one-of-more, no-check-one-of, verdict-one-of, check-one-of}
-use Rattle.block_rules.specs.Numbers.{tablesNumber, packNumber, blockNumber, unpackNumber}
+use Rattle.block_rules.specs.Numbers.{tablesNumber, packNumber, formNumber, blockNumber, unpackNumber}
 
 tables-one-of : (f d : ℕ) → List·Mem (tablesNumber f d) (0 ∷ 1 ∷ [])
 unfolding tablesNumber
@@ -14,7 +14,7 @@ unfolding packNumber
 pack-one-of n f d room = verdict-one-of _ _ (one-of-more _ _ (tables-one-of f d) refl) (check-one-of _ 2 _ (check-one-of _ 3 _ (no-check-one-of _) refl) refl)
 
 pub block-one-of : (b : List ℕ) → List·Mem (blockNumber b) (0 ∷ 4 ∷ 2 ∷ 5 ∷ 6 ∷ [])
-unfolding blockNumber
+unfolding blockNumber formNumber
 block-one-of b =
     check-one-of _ 4 _ (check-one-of _ 2 _ (check-one-of _ 5 _ (check-one-of _ 5 _ (check-one-of _ 6 _ (no-check-one-of _) refl) refl) refl) refl) refl
 

@@ -1,26 +1,29 @@
 -- What is promised of the rules of a block, each promise with one line of plain words.
-use mathlib.Core.Path.{_≡_, refl, sym, _∙_}
+use mathlib.Core.Path.{_≡_, refl, sym, ap, _∙_}
 use mathlib.Core.List.{List, [], _∷_, _++_, map}
 use Prim.Native.Nat.{ℕ, _*_, _^_, _≤_, _<_}
 use native.Mathlib.Omega.{arith}
 use lib.Count.{leadingZeros}
 use lib.ListN.{length, take, drop, length-drop, take-append-drop}
 use Rattle.words.specs.Words.{Words, add64, sub64, shiftedLeft, shiftedRight, lowBits, xor, zeroBytes}
+use Rattle.words.specs.Bytes.{Bytes}
 use Rattle.answers.specs.Answers.{unless, firstFailure, afterwards}
-use Rattle.block_rules.specs.Predictors.{cleared, fcmPrediction, dfcmPrediction, difference, nextFcmHash, nextDfcmHash, learn}
-use Rattle.block_rules.specs.Codes.{Choice, fcmResidual, dfcmResidual, dfcmChosen, dfcmChosenByBytes, Thrifty, lowThree, written, codedBy, chosen, codedWord, residualBytes}
+use Rattle.block_rules.specs.Predictors.{Memory, cleared, fcmPrediction, dfcmPrediction, difference, nextFcmHash, nextDfcmHash, learn}
+use Rattle.block_rules.specs.Codes.{Choice, fcmResidual, dfcmResidual, dfcmChosen, dfcmChosenByBytes, Thrifty, lowThree, written, codedBy, chosen, codedWord, residualBytes, decodedWord}
 use Rattle.block_rules.specs.Block.{arranged, blockBy, block, body, worst, count, residualsAt, countedCodes, lastHalf, wordsIn}
 use Rattle.block_rules.specs.Room.{Run, joined, Cut, ofEqualWords, runCost, bound, closerBound, Settles}
 use Rattle.block_rules.specs.Calls.{checked}
 use Rattle.block_rules.specs.Worked.{cases, made, worked}
-use Rattle.block_rules.specs.Numbers.{tOf, fillerStands, blockNumber}
+use Rattle.block_rules.specs.declared.Coded.{Coded}
+use Rattle.block_rules.specs.Numbers.{tOf, fillerStands, formNumber, blockNumber}
 use Rattle.block_rules.proofs.Tables.{t-of-power}
 use Rattle.block_rules.proofs.Codes.{rule-thrifty, bytes-thrifty}
 use Rattle.block_rules.proofs.Lengths.{block-at-most}
-use Rattle.block_rules.proofs.Accept.{checks-number, check-done, counted, too-short-for-codes, whole-alone}
-use Rattle.block_rules.proofs.Round.{chosen-count, chosen-whole, chosen-words}
-use Rattle.block_rules.proofs.Cost.{blocks-alike}
+use Rattle.block_rules.proofs.Accept.{takes-form, form-tells, checks-number, check-done, counted, too-short-for-codes, whole-alone}
+use Rattle.block_rules.proofs.Round.{chosen-bytes, chosen-count, chosen-whole, chosen-words}
+use Rattle.block_rules.proofs.Cost.{costs-no-more, blocks-alike}
 use Rattle.block_rules.proofs.Get.{length-words}
+use Rattle.block_rules.proofs.Shortest.{reads-count, reads-words, none-shorter}
 use Rattle.block_rules.proofs.Settle.{update, settles}
 use Rattle.block_rules.proofs.Runs.{block-closer, closer-at-most}
 
@@ -28,7 +31,7 @@ use Rattle.block_rules.proofs.Runs.{block-closer, closer-at-most}
 
 -- Every case of this list comes out as it was worked by hand.
 pub worked-by-hand : map made cases ≡ map worked cases
-unfolding block blockBy arranged body residualBytes codedWord chosen codedBy written lowThree dfcmChosen dfcmChosenByBytes fcmResidual dfcmResidual learn nextFcmHash nextDfcmHash difference fcmPrediction dfcmPrediction cleared checked blockNumber fillerStands lastHalf countedCodes unless firstFailure afterwards add64 sub64 shiftedLeft shiftedRight lowBits xor zeroBytes leadingZeros
+unfolding block blockBy arranged body residualBytes codedWord chosen codedBy written lowThree dfcmChosen dfcmChosenByBytes fcmResidual dfcmResidual learn nextFcmHash nextDfcmHash difference fcmPrediction dfcmPrediction cleared checked blockNumber formNumber fillerStands lastHalf countedCodes unless firstFailure afterwards add64 sub64 shiftedLeft shiftedRight lowBits xor zeroBytes leadingZeros
 worked-by-hand = refl
 
 -- ---- the choice, and blocks that were packed before request L2
@@ -57,6 +60,45 @@ packed-before-checks t ws few = sym (check-done _ _ (chosen-whole dfcmChosenByBy
 -- And it reads as its words, with tables of the same size.
 pub packed-before-reads : (t : ℕ) (ws : List ℕ) → length ws ≤ 65536 → Words ws → wordsIn t (blockBy dfcmChosenByBytes t ws) ≡ ws
 packed-before-reads t ws few h = chosen-words dfcmChosenByBytes t ws few h
+
+-- ---- no block is shorter
+
+-- Of all codes that read as a word, each with a residual of its width, the one taken has no more residual bytes. That no block is shorter and that
+-- a block is within its bound both rest on this law.
+pub taken-costs-no-more : (choice : Choice) → Thrifty choice → (m : Memory) (v : ℕ) (c : Coded) → c .residual < 256 ^ written (c .code) → decodedWord m c ≡ v
+    → written (codedWord choice m v .code) ≤ written (c .code)
+taken-costs-no-more choice h m v c fits reads = costs-no-more choice h m v c fits reads
+
+-- b is a block of the words ws, with tables of 2 ^ t words, whoever packed it: bytes, well-formed, that read as these words
+pub record BlockFor (t : ℕ) (ws b : List ℕ) : Type 0 where
+  pub bytes : Bytes b
+  pub formed : formNumber b ≡ 0
+  pub reads : wordsIn t b ≡ ws
+
+-- No block of the words is shorter than the one by a choice that never takes the residual with fewer leading zero bytes. For every t, all words and blocks of any
+-- count.
+pub none-is-shorter : (choice : Choice) → Thrifty choice → (t : ℕ) (ws b : List ℕ) → BlockFor t ws b → length (blockBy choice t ws) ≤ length b
+none-is-shorter choice h t ws b k = rw (← (k .reads)) (none-shorter t b (k .formed) (k .bytes) choice h)
+
+-- So none is shorter than the one by the rule's choice, which pack writes.
+pub no-block-is-shorter : (t : ℕ) (ws b : List ℕ) → BlockFor t ws b → length (block t ws) ≤ length b
+unfolding block
+no-block-is-shorter t ws b k = none-is-shorter dfcmChosen rule-is-thrifty t ws b k
+
+-- Nor than the one by the choice before request L2.
+pub no-block-was-shorter : (t : ℕ) (ws b : List ℕ) → BlockFor t ws b → length (blockBy dfcmChosenByBytes t ws) ≤ length b
+no-block-was-shorter t ws b k = none-is-shorter dfcmChosenByBytes before-was-thrifty t ws b k
+
+-- The block by any choice is itself a block of its words; so, by such a choice, it is a shortest.
+pub block-is-for-its-words : (choice : Choice) (t : ℕ) (ws : List ℕ) → Words ws → length ws ≤ 65536 → BlockFor t ws (blockBy choice t ws)
+block-is-for-its-words choice t ws h few =
+    record { bytes = chosen-bytes choice t ws; formed = takes-form _ (chosen-whole choice t ws few); reads = chosen-words choice t ws few h }
+
+-- Words that have a block are at most 65,536, each below 2^64; and every block of them counts them.
+pub words-of-any-block : (t : ℕ) (ws b : List ℕ) → BlockFor t ws b → Words ws × (length ws ≤ 65536) × (count b ≡ length ws)
+words-of-any-block t ws b k =
+    let n = sym (reads-count t b (k .formed)) ∙ ap length (k .reads) in
+    (rw (k .reads) at (reads-words t b (k .formed) (k .bytes)), rw n at (form-tells b (k .formed) .few), n)
 
 -- ---- nothing cut short, nothing added
 

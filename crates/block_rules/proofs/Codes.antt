@@ -60,6 +60,10 @@ written-is c = counted (c % 8) (omega arith)
 pub written-small : (c : ℕ) → written c ≤ 8
 written-small c = omega (arith, written-is c)
 
+-- what fits the bytes that a code writes is a word
+pub fits-word : (r c : ℕ) → r < 256 ^ written c → r < 2 ^ 64
+fits-word r c h = lt-of-lt-of-le h (pow-256-le {b = 8} (written-small c))
+
 -- ---- a residual with its code
 
 -- a code has four bits

@@ -4,19 +4,19 @@ use mathlib.Core.Bool.{true, false}
 use mathlib.Core.List.{List, [], _∷_}
 use Prim.Native.Nat.{ℕ, _+_, _-_, _/_, _%_, max, _^_, _≤_, _<_}
 use native.Mathlib.Omega.{arith}
-use native.Mathlib.Nat.{one-le-pow, lt-of-lt-of-le}
+use native.Mathlib.Nat.{one-le-pow}
 use lib.Dec.{ltb}
 use lib.ListN.{length}
 use borrow.Author.Tests.{ltb-true, ltb-false}
 use Rattle.words.specs.Words.{xor, zeroBytes}
 use Rattle.words.proofs.Tests.{either}
-use Rattle.words.proofs.Zeros.{zeros-at-most, zeros-of-fit, pow-256-le}
+use Rattle.words.proofs.Zeros.{zeros-at-most, zeros-of-fit}
 use Rattle.words.proofs.Xor.{xor-of, xor-none}
 use Rattle.block_rules.specs.Predictors.{Memory, cleared, fcmPrediction, dfcmPrediction, learn}
 use Rattle.block_rules.specs.Codes.{Choice, Thrifty, fcmResidual, dfcmResidual, lowThree, written, chosen, codedWord, codedWords, namedPrediction, decodedWord}
 use Rattle.block_rules.specs.Block.{allResidualBytes, blockBy}
 use Rattle.block_rules.specs.declared.Coded.{Coded}
-use Rattle.block_rules.proofs.Codes.{low-three-is, low-three-of-zero, written-is, written-small, coded-cost}
+use Rattle.block_rules.proofs.Codes.{low-three-is, low-three-of-zero, written-is, fits-word, coded-cost}
 use Rattle.block_rules.proofs.Lengths.{length-residuals, length-block-by}
 
 -- of the codes that write enough for z zero bytes, the code made for z writes least
@@ -41,9 +41,7 @@ least-enough z c h l =
 
 -- what fits the bytes that a code writes leaves the other bytes zero
 zeros-of-written : (r c : ℕ) → r < 256 ^ written c → 8 - zeroBytes r ≤ written c
-zeros-of-written r c h =
-    let w : r < 2 ^ 64 = lt-of-lt-of-le h (pow-256-le {b = 8} (written-small c)) in
-    omega (arith, zeros-of-fit r (written c) w h)
+zeros-of-written r c h = omega (arith, zeros-of-fit r (written c) (fits-word r c h) h)
 
 module _ (choice : Choice) (thrifty : Thrifty choice) where
   -- the one taken costs what the residual with more leading zero bytes costs

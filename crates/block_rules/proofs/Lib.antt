@@ -7,6 +7,7 @@ pub mod Answered
 pub mod Get
 pub mod Round
 pub mod Cost
+pub mod Shortest
 pub mod Settle
 pub mod Runs
 pub mod Claims

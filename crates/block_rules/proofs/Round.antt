@@ -9,20 +9,21 @@ use lib.ListN.{length, getD, set, take, drop, replicate}
 use lib.Seq.{take-at, drop-at, drop-drop, take-append-seam}
 use borrow.Author.Tests.{eqb-true}
 use Rattle.words.specs.Words.{Words, sub64, add64}
-use Rattle.words.specs.Bytes.{number}
+use Rattle.words.specs.Bytes.{Bytes, lowBytes, number}
 use Rattle.words.proofs.Each.{Each, none, more}
 use Rattle.words.proofs.Tests.{either}
 use Rattle.words.proofs.Xor.{xor-back, xor-word}
-use Rattle.words.proofs.Bytes.{number-low}
+use Rattle.words.proofs.Bytes.{bytes-append, bytes-low, number-low}
 use Rattle.block_rules.specs.Predictors.{Memory, cleared, fcmPrediction, dfcmPrediction, difference, learn}
 use Rattle.block_rules.specs.Codes.{Choice, fcmResidual, dfcmResidual, written, codedBy, codedWord, codedWords, residualBytes, decodedWord, decodedWords}
 use Rattle.block_rules.specs.Block.{codes, codeBytes, allResidualBytes, body, arranged, blockBy, block, residualsAt, count, statedLength, halves, countedCodes, lastHalf, residualLength, withResiduals, codedIn, wordsIn}
 use Rattle.block_rules.specs.Numbers.{fillerStands, blockNumber}
-use Rattle.block_rules.specs.Inside.{PacksAll}
+use Rattle.block_rules.specs.Inside.{PacksAll, UnpacksAll}
 use Rattle.block_rules.specs.declared.Coded.{Coded}
 use Rattle.block_rules.proofs.Codes.{names-dfcm, names-fcm, coded-residual, whichever, coded-small, coded-by-fits}
 use Rattle.block_rules.proofs.Lengths.{length-residual, length-residuals, length-codes, length-coded, length-code-bytes, length-body, length-arranged, arranged-at-most}
-use Rattle.block_rules.proofs.Accept.{whole-checks}
+use Rattle.block_rules.proofs.Accept.{whole-checks, counted}
+use Rattle.block_rules.proofs.Get.{length-words}
 
 -- ---- codes from their bytes
 
@@ -66,6 +67,28 @@ residuals-back (c ∷ cs) (more h f) =
     let n : length (residualBytes c) ≡ k = length-residual c in
     let e : number (take k (residualBytes c ++ allResidualBytes cs)) ≡ c .residual = ap number (take-at (residualBytes c) (allResidualBytes cs) k n) ∙ read-back c h in
     rw (e, drop-at (residualBytes c) (allResidualBytes cs) k n) (ap (λ (l : List Coded). c ∷ l) (residuals-back cs f))
+
+-- ---- what is arranged is bytes
+
+code-bytes-fit : (cs : List ℕ) → FourBits cs → Bytes (codeBytes cs)
+code-bytes-fit [] h i = omega arith
+code-bytes-fit (c ∷ []) h zero = omega (arith, h 0)
+code-bytes-fit (c ∷ []) h (suc i) = omega arith
+code-bytes-fit (c ∷ d ∷ cs) h zero = omega (arith, h 0, h 1)
+code-bytes-fit (c ∷ d ∷ cs) h (suc i) = code-bytes-fit cs (λ j. h (suc (suc j))) i
+
+residual-bytes-fit : (cs : List Coded) → Bytes (allResidualBytes cs)
+unfolding residualBytes
+residual-bytes-fit [] i = omega arith
+residual-bytes-fit (c ∷ cs) i = bytes-append (residualBytes c) (allResidualBytes cs) (bytes-low (written (c .code)) (c .residual)) (residual-bytes-fit cs) i
+
+arranged-bytes : (cs : List Coded) → FourBits (codes cs) → Bytes (arranged cs)
+unfolding arranged body
+arranged-bytes cs small =
+    let counts = lowBytes 4 (length cs) in
+    let states = lowBytes 4 (8 + length (body cs)) in
+    let rest = bytes-append (codeBytes (codes cs)) (allResidualBytes cs) (code-bytes-fit (codes cs) small) (residual-bytes-fit cs) in
+    bytes-append counts (states ++ body cs) (bytes-low 4 (length cs)) (bytes-append states (body cs) (bytes-low 4 (8 + length (body cs))) rest)
 
 -- ---- what was arranged is read back
 
@@ -128,7 +151,7 @@ unfolding decodedWord fcmResidual
 by-fcm m v = rw (names-fcm m _, coded-residual) (xor-back v (fcmPrediction m))
 
 -- words of 64 bits in the predictors
-record Wide (m : Memory) : Type 0 where
+pub record Wide (m : Memory) : Type 0 where
   pub fcm : Words (m .fcm)
   pub dfcm : Words (m .dfcm)
   pub last : m .last < 2 ^ 64
@@ -145,11 +168,11 @@ wide-zeros zero i = omega arith
 wide-zeros (suc n) zero = omega arith
 wide-zeros (suc n) (suc i) = wide-zeros n i
 
-wide-cleared : (t : ℕ) → Wide (cleared t)
+pub wide-cleared : (t : ℕ) → Wide (cleared t)
 unfolding cleared
 wide-cleared t = record { fcm = wide-zeros (2 ^ t); dfcm = wide-zeros (2 ^ t); last = omega arith }
 
-wide-learn : (t : ℕ) (m : Memory) (v : ℕ) → Wide m → v < 2 ^ 64 → Wide (learn t m v)
+pub wide-learn : (t : ℕ) (m : Memory) (v : ℕ) → Wide m → v < 2 ^ 64 → Wide (learn t m v)
 unfolding learn difference sub64
 wide-learn t m v w h =
     record { fcm = wide-set (m .fcm) (m .fcmHash) v (w .fcm) h; dfcm = wide-set (m .dfcm) (m .dfcmHash) _ (w .dfcm) (omega arith); last = h }
@@ -190,6 +213,11 @@ module _ (choice : Choice) where
   words-back t [] m = refl
   words-back t (v ∷ vs) m = rw (word-back m v) (ap (λ (l : List ℕ). v ∷ l) (words-back t vs (learn t m v)))
 
+  -- their block is bytes
+  pub chosen-bytes : (t : ℕ) (ws : List ℕ) → Bytes (blockBy choice t ws)
+  unfolding blockBy
+  chosen-bytes t ws = arranged-bytes (codedWords choice t (cleared t) ws) (coded-four-bits t ws (cleared t))
+
   -- so the block of words by any choice is whole, counts the words, and reads as the words
   module _ (t : ℕ) (ws : List ℕ) (few : length ws ≤ 65536) where
     abbrev cs : List Coded
@@ -214,3 +242,7 @@ module _ (choice : Choice) where
 -- the block stands first in the output
 pub written-block : {t : ℕ} {ws old f' d' out' : List ℕ} {k : ℕ} → PacksAll t ws old f' d' out' k → take k out' ≡ block t ws
 written-block {t} {ws} {old} p = rw (p .size, p .out) (take-append-seam (block t ws) _)
+
+-- and the words stand first in what unpacking gives
+pub given-words : {t : ℕ} {b old f' d' ws' : List ℕ} {n : ℕ} → blockNumber b ≡ 0 → UnpacksAll t b old f' d' ws' n → take n ws' ≡ wordsIn t b
+given-words {t} {b} {n = n} e u = rw (u .words) (take-at (wordsIn t b) _ n (length-words t b n (counted b n e (u .count))))

@@ -37,9 +37,9 @@ packNumber n f d room =
 unfoldable pub fillerStands : List ℕ → Bool
 fillerStands b = cond (eqb (count b % 2) 1) (eqb (lastHalf b) 7) true
 
--- the number for checking the block b: 4, 2, 5, 6
-unfoldable pub blockNumber : List ℕ → ℕ
-blockNumber b =
+-- the number for the form of the block b: 4, 2, 5, 6; where it is 0 the block is well-formed
+unfoldable pub formNumber : List ℕ → ℕ
+formNumber b =
     firstFailure
     (unless (leb 8 (length b)) 4
     ∷ unless (leb (count b) 65536) 2
@@ -47,6 +47,10 @@ blockNumber b =
     ∷ unless (eqb (statedLength b) (residualsAt (count b) + residualLength (countedCodes b))) 5
     ∷ unless (fillerStands b) 6
     ∷ [])
+
+-- the number for checking the block b: its form's
+unfoldable pub blockNumber : List ℕ → ℕ
+blockNumber b = formNumber b
 
 -- the number for unpacking the block b, with tables of f and d words, into room for some words: 1, then check's, then 3
 unfoldable pub unpackNumber : List ℕ → ℕ → ℕ → ℕ → ℕ

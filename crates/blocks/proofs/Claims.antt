@@ -5,6 +5,7 @@ use mathlib.Core.List.{List, [], _∷_, List·Mem, mem-cast}
 use Prim.Native.Nat.{ℕ, _+_, _%_, _^_, _≤_}
 use lib.ListN.{length, take}
 use Rattle.words.specs.Words.{Words}
+use Rattle.words.specs.Bytes.{Bytes}
 use Rattle.answers.specs.Answers.{over}
 use Rattle.answers.proofs.Checks.{afterwards-old}
 use Rattle.block_rules.specs.Predictors.{cleared, after}
@@ -18,10 +19,10 @@ use Rattle.block_rules.specs.declared.Packed.{Packed}
 use Rattle.block_rules.specs.declared.Checked.{Checked}
 use Rattle.block_rules.specs.declared.Unpacked.{Unpacked}
 use Rattle.block_rules.proofs.Tables.{t-of-power, sized-power, tables-sized, sized-tables}
-use Rattle.block_rules.proofs.Accept.{packable, packable-packs, whole, whole-checks, unpackable, unpackable-unpacks, packs-number, checks-number, packs-all-of, where-number, where-all, where-nothing, where-one-answer, where-forgets, unpacked-of, check-done, filler-needs, filler-has}
+use Rattle.block_rules.proofs.Accept.{packable, packable-packs, takes-form, whole, whole-checks, unpackable, unpackable-unpacks, packs-number, checks-number, packs-all-of, where-number, where-all, where-nothing, where-one-answer, where-forgets, unpacked-of, check-done, filler-needs, filler-has}
 use Rattle.block_rules.proofs.Answered.{pack-one-of, block-one-of, unpack-one-of}
-use Rattle.block_rules.proofs.Round.{chosen-count, chosen-whole, chosen-words, written-block}
-use Rattle.block_rules.proofs.Claims.{block-within-bound, block-within-worst, block-within-closer-bound}
+use Rattle.block_rules.proofs.Round.{chosen-count, chosen-whole, chosen-words, written-block, given-words}
+use Rattle.block_rules.proofs.Claims.{no-block-is-shorter, block-within-bound, block-within-worst, block-within-closer-bound}
 
 -- ---- no second answer
 
@@ -218,6 +219,23 @@ pub packed-before-unpacks : (words : List ℕ) {fcm dfcm room fcm' dfcm' room' :
     × (fcm' ≡ after (k .t) (cleared (k .t)) words .fcm) × (dfcm' ≡ after (k .t) (cleared (k .t)) words .dfcm)
 packed-before-unpacks words {fcm} {dfcm} k h few u l =
     there-and-back dfcmChosenByBytes (k .t) words h few u (of-tables fcm dfcm k) (ap tOf (k .fcmLong) ∙ t-of-power (k .t) (k .most)) l
+
+-- ---- no block is shorter
+
+-- the words that an accepted unpack gave: the first of the words, as many as it answered
+abbrev pub givenWords : Unpacked → List ℕ → List ℕ
+givenWords s room' = take (s .count) room'
+
+-- Whoever packed them: of all bytes for which unpack, with tables of the size that pack had, answers 0 and gives the words that were packed, none are fewer than the
+-- length that an accepted pack answered.
+pub pack-is-shortest : {words fcm dfcm out f' d' out' b f₂ d₂ room f₂' d₂' room' : List ℕ} {r : Packed} {s : Unpacked}
+    → Packs words fcm dfcm out r f' d' out' → r .number ≡ 0
+    → Bytes b → Unpacks b f₂ d₂ room s f₂' d₂' room' → length f₂ ≡ length fcm → s .number ≡ 0 → givenWords s room' ≡ words
+    → r .length ≤ length b
+pack-is-shortest {b = b} p e h u same z gives =
+    let whole = unpackable _ _ _ _ (sym (where-number u) ∙ z) .whole in
+    let reads = sym (given-words whole (where-all u z)) ∙ gives in
+    rw (packs-all-of p e .size) (no-block-is-shorter _ _ _ (record { bytes = h; formed = takes-form b whole; reads = rw same at reads }))
 
 -- ---- how much room a block needs
 

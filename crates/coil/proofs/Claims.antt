@@ -17,7 +17,7 @@ use Rattle.block_rules.specs.declared.Checked.{Checked}
 use Rattle.block_rules.specs.declared.Unpacked.{Unpacked}
 use Rattle.block_rules.proofs.Accept.{checks-number}
 use Rattle.block_rules.proofs.Claims.{packed-before-checks}
-use Rattle.blocks.proofs.Claims.{Tables, round-trip, packed-before-unpacks, pack-numbers, check-numbers, unpack-numbers, pack-one-answer, unpack-one-answer, pack-forgets, unpack-forgets, refused-pack-changes-nothing, refused-unpack-changes-nothing}
+use Rattle.blocks.proofs.Claims.{Tables, round-trip, packed-before-unpacks, pack-is-shortest, pack-numbers, check-numbers, unpack-numbers, pack-one-answer, unpack-one-answer, pack-forgets, unpack-forgets, refused-pack-changes-nothing, refused-unpack-changes-nothing}
 use Rattle.exam_rules.specs.File.{Entry, fileLength, fileBytes}
 use Rattle.exam_rules.specs.Reading.{examIn, fileIn, entryOf}
 use Rattle.exam_rules.specs.Numbers.{findNumber, blockIn}
@@ -114,6 +114,16 @@ all-whole c l asked w slot z =
 pub coil-cut-is-never-whole : {exam t : ℕ} {ms : List Map} {b : List ℕ} {l : ℕ} → MadeOf exam t ms b l → (k : ℕ) → k < l → (c : List ℕ) → take k c ≡ take k b
     → (asked : ℕ) → CoilOpens c k asked 0 → ((slot offset size : ℕ) → CoilFinds c k asked slot 0 offset size → CoilChecks (take size (drop offset c)) 0) → ⊥
 coil-cut-is-never-whole m k short c same asked o w = cut-is-never-whole m k short c same asked (sym o) (all-whole c k asked w)
+
+-- ---- no block is shorter
+
+-- Of all bytes for which coil_unpack, with tables of the size that coil_pack had, answers 0 and gives the words that were packed, none are fewer than those that
+-- coil_pack wrote.
+pub coil-pack-is-shortest : {words fcm dfcm out f' d' out' b f₂ d₂ room f₂' d₂' room' : List ℕ} {r l s n : ℕ}
+    → CoilPacks words fcm dfcm out r f' d' out' l → r ≡ 0
+    → Bytes b → CoilUnpacks b f₂ d₂ room s f₂' d₂' room' n → length f₂ ≡ length fcm → s ≡ 0 → take n room' ≡ words
+    → l ≤ length b
+coil-pack-is-shortest p e h u same z gives = pack-is-shortest p e h u same z gives
 
 -- ---- what was packed before request L2, when dfcm was chosen by leading zero bytes
 

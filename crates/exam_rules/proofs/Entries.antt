@@ -7,22 +7,12 @@ use lib.Dec.{eqb}
 use lib.ListN.{length, take, drop, length-drop}
 use lib.Seq.{sets, take-add, drop-drop}
 use Rattle.words.specs.Bytes.{Bytes, lowBytes, number, field}
+use Rattle.words.proofs.Bytes.{bytes-drop}
 use Rattle.words.proofs.Stores.{sets-append, sets-sets, put-again}
 use Rattle.words.proofs.Tests.{either}
 use Rattle.exam_rules.specs.File.{Entry, entry, entryBytes, directoryBytes, moved, resized}
 use Rattle.exam_rules.specs.Reading.{entryAt, entriesAt, indexOf}
 use Rattle.exam_rules.proofs.Parts.{part-of-first}
-
-pub bytes-take : (n : ℕ) (l : List ℕ) → Bytes l → Bytes (take n l)
-bytes-take zero l h i = omega arith
-bytes-take (suc n) [] h i = omega arith
-bytes-take (suc n) (x ∷ l) h zero = h 0
-bytes-take (suc n) (x ∷ l) h (suc i) = bytes-take n l (λ k. h (suc k)) i
-
-pub bytes-drop : (n : ℕ) (l : List ℕ) → Bytes l → Bytes (drop n l)
-bytes-drop zero l h i = h i
-bytes-drop (suc n) [] h i = omega arith
-bytes-drop (suc n) (x ∷ l) h i = bytes-drop n l (λ k. h (suc k)) i
 
 bytes-back : (k : ℕ) (l : List ℕ) → Bytes l → k ≤ length l → lowBytes k (number (take k l)) ≡ take k l
 bytes-back zero l h n = refl

@@ -9,7 +9,7 @@ use lib.Seq.{take-append-seam, length-take-le, getD-append-seam, drop-append-sea
 use Rattle.words.specs.Bytes.{Bytes}
 use Rattle.words.proofs.Each.{Each, none, more}
 use Rattle.words.proofs.Tests.{either}
-use Rattle.words.proofs.Bytes.{number-below}
+use Rattle.words.proofs.Bytes.{bytes-take, bytes-drop, number-below}
 use Rattle.answers.proofs.Checks.{none-fails}
 use Rattle.block_rules.specs.Block.{block}
 use Rattle.exam_rules.specs.File.{Entry, entry, File, blockOf, appended}
@@ -21,7 +21,6 @@ use Rattle.exam_rules.proofs.Directory.{block-within, block-long, index
 use Rattle.exam_rules.proofs.Opens.{Opens, OpensIn, opens-in, trails-ends, body-long, entries-many, parts-long}
 use Rattle.exam_rules.proofs.Parts.{part-of-first}
 use Rattle.exam_rules.proofs.Changes.{changes-number}
-use Rattle.exam_rules.proofs.Entries.{bytes-take, bytes-drop}
 use Rattle.exam_rules.proofs.Accept.{find-tells, find-passes}
 use Rattle.exam_rules.proofs.Back.{Small, Good}
 use Rattle.exam_rules.proofs.Holds.{Holds, holds-parts, holds-opens, appended-holds}

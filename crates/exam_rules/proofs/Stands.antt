@@ -6,6 +6,7 @@ use native.Mathlib.Omega.{arith}
 use lib.ListN.{take, drop}
 use lib.Seq.{take-take}
 use Rattle.words.specs.Bytes.{Bytes}
+use Rattle.words.proofs.Bytes.{bytes-take}
 use Rattle.exam_rules.specs.File.{directoryBytes}
 use Rattle.exam_rules.specs.Reading.{fileIn, directoryAt, entriesIn}
 use Rattle.exam_rules.specs.Calls.{opened}
@@ -14,7 +15,7 @@ use Rattle.exam_rules.specs.declared.Opened.the-variants.{Done}
 use Rattle.exam_rules.specs.declared.Trailer.{Trailer}
 use Rattle.exam_rules.proofs.Opens.{OpensIn, opens-in, standing, done-tells, trails-ends}
 use Rattle.exam_rules.proofs.Parts.{start-is, many-is, part-of-first}
-use Rattle.exam_rules.proofs.Entries.{directory-back, bytes-take}
+use Rattle.exam_rules.proofs.Entries.{directory-back}
 
 module _ (b : List ℕ) (l exam : ℕ) (tr : Trailer) (o : opened b l exam ≡ Done tr) where
   in-buffer : OpensIn b l exam

@@ -15,7 +15,7 @@ use Rattle.block_rules.specs.Predictors.{cleared, fcmPrediction, dfcmPrediction
 use Rattle.block_rules.specs.Codes.{fcmResidual, dfcmResidual, dfcmChosen, lowThree, written, codedBy, chosen, codedWord, residualBytes}
 use Rattle.block_rules.specs.Block.{arranged, blockBy, block, body, countedCodes, lastHalf}
 use Rattle.block_rules.specs.Calls.{checked}
-use Rattle.block_rules.specs.Numbers.{fillerStands, blockNumber}
+use Rattle.block_rules.specs.Numbers.{fillerStands, formNumber, blockNumber}
 use Rattle.block_rules.proofs.Accept.{checks-number}
 use Rattle.block_rules.proofs.Answered.{block-one-of}
 use Rattle.exam_rules.specs.File.{Entry, entry, File, entryBytes, trailerBytes, fileBytes, blockOf, empty, appended}
@@ -54,7 +54,7 @@ worked-listing = refl
 
 -- It is refused with 88 bytes of room, and taken with 89.
 pub worked-number : (listNumber workedFile 88 ≡ 3) × (listNumber workedFile 89 ≡ 0)
-unfolding listNumber mostText openNumber trailerNumber fieldsNumber directoryNumber editionKnown joins fileIn entryAt blockOf blockNumber fillerStands lastHalf countedCodes written unless firstFailure
+unfolding listNumber mostText openNumber trailerNumber fieldsNumber directoryNumber editionKnown joins fileIn entryAt blockOf blockNumber formNumber fillerStands lastHalf countedCodes written unless firstFailure
 worked-number = (refl, refl)
 
 -- ---- no second answer

@@ -1,6 +1,6 @@
 -- Bytes low first, and the number that they make.
 use mathlib.Core.Path.{_≡_, refl, ap, _∙_}
-use mathlib.Core.List.{List, [], _∷_}
+use mathlib.Core.List.{List, [], _∷_, _++_}
 use Prim.Native.Nat.{ℕ, zero, suc, _+_, _-_, _*_, _/_, _^_, _≤_, _<_}
 use native.Mathlib.Omega.{arith}
 use native.Mathlib.Nat.{zero-add, suc-add, mul-zero, mul-assoc, mul-comm, pow-suc, pow-succ', div-eq-of-lt, div-lt-iff-lt-mul, add-mul-div-left}
@@ -8,6 +8,29 @@ use lib.ListN.{length, getD, take, drop}
 use lib.Seq.{take-nil, drop-cons, drop-drop, getD-drop}
 use Rattle.words.specs.Bytes.{Bytes, lowBytes, number, field}
 use Rattle.words.proofs.Zeros.{pow-256, pow-256-le}
+
+-- ---- lists of bytes
+
+pub bytes-take : (n : ℕ) (l : List ℕ) → Bytes l → Bytes (take n l)
+bytes-take zero l h i = omega arith
+bytes-take (suc n) [] h i = omega arith
+bytes-take (suc n) (x ∷ l) h zero = h 0
+bytes-take (suc n) (x ∷ l) h (suc i) = bytes-take n l (λ k. h (suc k)) i
+
+pub bytes-drop : (n : ℕ) (l : List ℕ) → Bytes l → Bytes (drop n l)
+bytes-drop n l h i = rw (getD-drop n l i 0) (h (n + i))
+
+pub bytes-append : (k l : List ℕ) → Bytes k → Bytes l → Bytes (k ++ l)
+bytes-append [] l g h i = h i
+bytes-append (x ∷ k) l g h zero = g 0
+bytes-append (x ∷ k) l g h (suc i) = bytes-append k l (λ j. g (suc j)) h i
+
+pub bytes-low : (k x : ℕ) → Bytes (lowBytes k x)
+bytes-low zero x i = omega arith
+bytes-low (suc k) x zero = omega arith
+bytes-low (suc k) x (suc i) = bytes-low k (x / 256) i
+
+-- ---- the number that they make
 
 pub length-low : (k x : ℕ) → length (lowBytes k x) ≡ k
 length-low zero x = refl
@@ -82,7 +105,7 @@ reading-all bs at k j x h g =
 
 -- a field of k bytes is below 256 ^ k
 pub field-below : (k at : ℕ) (bs : List ℕ) → Bytes bs → field k at bs < 256 ^ k
-field-below k at bs h = number-below k (drop at bs) (λ i. rw (getD-drop at bs i 0) (h (at + i)))
+field-below k at bs h = number-below k (drop at bs) (bytes-drop at bs h)
 
 -- of j + k bytes with the first j shifted out, the last k are left
 field-last : (j k at : ℕ) (bs : List ℕ) → Bytes bs → field (j + k) at bs / 2 ^ (8 * j) ≡ field k (at + j) bs
