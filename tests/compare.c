@@ -30,7 +30,7 @@ static const group groups[] = {
     { "replace", group_replace, "lives with replaces, made afresh again; every size, place, distance and room" },
     { "order", group_order, "several rules broken at once, in every combination" },
     { "far", group_far, "65,536 words, 1,024 entries, 16 MiB, lengths beyond 32 bits" },
-    { "shortest", group_shortest, "rival blocks of the same words, and short blocks with every list of codes: none is shorter" }
+    { "shortest", group_shortest, "rival blocks, blocks of random bytes, every short list of codes: none is shorter" }
 };
 
 /* A call that touches memory it was not lent ends here. Only calls that are safe in a handler. */

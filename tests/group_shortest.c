@@ -1,5 +1,5 @@
-/* No block is shorter: rival blocks of the same words, by any choice and with any low bits that leave room, and short
- * blocks with every list of codes. What they read as is packed, and the block is no longer. */
+/* No block is shorter: rival blocks of the same words, by any choice and with any low bits that leave room; blocks of
+ * random codes and bytes; short ones with every list of codes. What they read as is packed, and is no longer. */
 #include "groups.h"
 #include "inputs.h"
 #include "reference.h"
@@ -60,16 +60,16 @@ static void against_a_rival(size_t count, uint32_t t, unsigned round)
     must_answer(compare_check(rival, length), 0);
     outcome unpacked = compare_unpack(rival, length, tables_of(t), count);
     must_answer(unpacked, 0);
-    must_hold(unpacked.first == count && memcmp(unpacked.words, words, 8 * count) == 0, "a rival block gives the words");
+    must_hold(unpacked.first == count && memcmp(unpacked.words, words, 8 * count) == 0,
+              "a rival block gives the words");
     outcome packed = compare_pack(words, count, tables_of(t), WORST(count));
     must_answer(packed, 0);
     must_hold(packed.first == 8 + (count + 1) / 2 + fewest, "a block has as few bytes as any codes can have");
-    must_hold(packed.first <= length, "no rival is shorter");
     longer += length > packed.first;
     as_short += length == packed.first && memcmp(packed.bytes, rival, length) != 0;
 }
 
-/* ---- Short blocks with every list of codes ---- */
+/* ---- Blocks that no packer wrote ---- */
 
 /* What the block reads as is packed, and the block of it is no longer. */
 static void read_and_packed(size_t length, size_t count, uint32_t t)
@@ -79,7 +79,18 @@ static void read_and_packed(size_t length, size_t count, uint32_t t)
     memcpy(words, unpacked.words, 8 * count);
     outcome packed = compare_pack(words, count, tables_of(t), WORST(count));
     must_answer(packed, 0);
-    must_hold(packed.first <= length, "no short block is shorter");
+    must_hold(packed.first <= length, "the block of what was read is no longer");
+}
+
+static void forged_blocks(unsigned rounds)
+{
+    for (unsigned round = 0; round < 60 * rounds; round++) {
+        size_t count = random_below(2) ? random_below(10) : random_below(200);
+        uint32_t t = (uint32_t)(round % 17);
+        size_t length = forge_block(rival, count);
+        this_case_is("forged block to pack again, t = %u, %zu words, round %u", t, count, round);
+        read_and_packed(length, count, t);
+    }
 }
 
 /* All residual bytes of some values, one after another. */
@@ -96,7 +107,8 @@ static void every_residual(size_t at, size_t length, size_t count, uint32_t t)
     }
 }
 
-/* Every list of codes with at most so many residual bytes, a number of sixteen's digits, the first code highest. */
+/* Every list of codes with at most so many residual bytes. A list is a number in base sixteen, its first code the
+ * highest digit. */
 static void every_short_block(size_t count, size_t most_residual_bytes, uint32_t t)
 {
     for (unsigned long codes = 0; codes < 1ul << (4 * count); codes++) {
@@ -123,6 +135,7 @@ void group_shortest(unsigned rounds)
     as_short = 0;
     every_kind_and_t("a rival", rounds, words, MOST, against_a_rival);
     must_hold(longer > 0 && as_short > 0, "some rivals are longer, and some as short with other bytes");
+    forged_blocks(rounds);
     for (uint32_t t = 0; t <= 2; t++) {
         for (size_t count = 0; count <= 3; count++) {
             every_short_block(count, 3, t);

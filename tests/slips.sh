@@ -482,6 +482,6 @@ slip "replace: bench not filled" 'size_t new_size = pack_now(words, words_len, f
     *new_length = put_block_in_place(file, length, &found, index, own, new_size);'
 
 # ---- Slips of both sides: a packer whose blocks come back, and are longer than they need be
-slip "both: the residual with fewer zero bits chosen" 'leading_zero_bits(dfcm_residual) > ' \
-    'leading_zero_bits(dfcm_residual) < '
+slip "both: the residual that the rule leaves is taken" 'int dfcm_is_chosen = dfcm_chosen(' \
+    'int dfcm_is_chosen = !dfcm_chosen('
 slip "both: a zero byte given away" '{ 0, 1, 2, 3, 3, 4, 5, 6, 7 }' '{ 0, 0, 1, 2, 3, 4, 5, 6, 7 }'

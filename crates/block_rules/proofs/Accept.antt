@@ -59,7 +59,7 @@ pack-done ws f d out f' d' out' k z p =
 
 -- ---- check
 
--- what a well-formed block has
+-- what a block that can be read has
 pub record Whole (b : List ℕ) : Type 0 where
   pub long : 8 ≤ length b
   pub few : count b ≤ 65536
@@ -83,7 +83,7 @@ form-tells b e =
       filler = unless-holds _ _ (none-fails _ _ (f .1) .0) (omega arith);
     }
 
--- a block that check takes is well-formed
+-- a block that check takes can be read
 pub takes-form : (b : List ℕ) → blockNumber b ≡ 0 → formNumber b ≡ 0
 unfolding blockNumber
 takes-form b e = e

@@ -6,12 +6,11 @@ use native.Mathlib.Omega.{arith}
 use lib.Count.{leadingZeros}
 use lib.ListN.{length, take, drop, length-drop, take-append-drop}
 use Rattle.words.specs.Words.{Words, add64, sub64, shiftedLeft, shiftedRight, lowBits, xor, zeroBytes}
-use Rattle.words.specs.Bytes.{Bytes}
 use Rattle.answers.specs.Answers.{unless, firstFailure, afterwards}
 use Rattle.block_rules.specs.Predictors.{Memory, cleared, fcmPrediction, dfcmPrediction, difference, nextFcmHash, nextDfcmHash, learn}
 use Rattle.block_rules.specs.Codes.{Choice, fcmResidual, dfcmResidual, dfcmChosen, dfcmChosenByBytes, Thrifty, lowThree, written, codedBy, chosen, codedWord, residualBytes, decodedWord}
 use Rattle.block_rules.specs.Block.{arranged, blockBy, block, body, worst, count, residualsAt, countedCodes, lastHalf, wordsIn}
-use Rattle.block_rules.specs.Room.{Run, joined, Cut, ofEqualWords, runCost, bound, closerBound, Settles}
+use Rattle.block_rules.specs.Room.{Run, joined, Cut, ofEqualWords, runCost, bound, closerBound, Settles, BlockFor}
 use Rattle.block_rules.specs.Calls.{checked}
 use Rattle.block_rules.specs.Worked.{cases, made, worked}
 use Rattle.block_rules.specs.declared.Coded.{Coded}
@@ -19,10 +18,9 @@ use Rattle.block_rules.specs.Numbers.{tOf, fillerStands, formNumber, blo
 use Rattle.block_rules.proofs.Tables.{t-of-power}
 use Rattle.block_rules.proofs.Codes.{rule-thrifty, bytes-thrifty}
 use Rattle.block_rules.proofs.Lengths.{block-at-most}
-use Rattle.block_rules.proofs.Accept.{takes-form, form-tells, checks-number, check-done, counted, too-short-for-codes, whole-alone}
+use Rattle.block_rules.proofs.Accept.{takes-form, form-tells, checks-number, check-done, too-short-for-codes, whole-alone}
 use Rattle.block_rules.proofs.Round.{chosen-bytes, chosen-count, chosen-whole, chosen-words}
 use Rattle.block_rules.proofs.Cost.{costs-no-more, blocks-alike}
-use Rattle.block_rules.proofs.Get.{length-words}
 use Rattle.block_rules.proofs.Shortest.{reads-count, reads-words, none-shorter}
 use Rattle.block_rules.proofs.Settle.{update, settles}
 use Rattle.block_rules.proofs.Runs.{block-closer, closer-at-most}
@@ -63,33 +61,27 @@ packed-before-reads t ws few h = chosen-words dfcmChosenByBytes t ws few h
 
 -- ---- no block is shorter
 
--- Of all codes that read as a word, each with a residual of its width, the one taken has no more residual bytes. That no block is shorter and that
--- a block is within its bound both rest on this law.
+-- By a thrifty choice: of all codes that read as a word, each with a residual that fits its bytes, the one taken has no more residual bytes. That no block is
+-- shorter and that a block is within its bound both rest on this law.
 pub taken-costs-no-more : (choice : Choice) → Thrifty choice → (m : Memory) (v : ℕ) (c : Coded) → c .residual < 256 ^ written (c .code) → decodedWord m c ≡ v
     → written (codedWord choice m v .code) ≤ written (c .code)
 taken-costs-no-more choice h m v c fits reads = costs-no-more choice h m v c fits reads
 
--- b is a block of the words ws, with tables of 2 ^ t words, whoever packed it: bytes, well-formed, that read as these words
-pub record BlockFor (t : ℕ) (ws b : List ℕ) : Type 0 where
-  pub bytes : Bytes b
-  pub formed : formNumber b ≡ 0
-  pub reads : wordsIn t b ≡ ws
-
--- No block of the words is shorter than the one by a choice that never takes the residual with fewer leading zero bytes. For every t, all words and blocks of any
--- count.
-pub none-is-shorter : (choice : Choice) → Thrifty choice → (t : ℕ) (ws b : List ℕ) → BlockFor t ws b → length (blockBy choice t ws) ≤ length b
-none-is-shorter choice h t ws b k = rw (← (k .reads)) (none-shorter t b (k .formed) (k .bytes) choice h)
+-- No block of the words is shorter than the one by a choice that never takes the residual with fewer leading zero bytes. For every t and all words; that the blocks
+-- count alike is not asked.
+pub thrifty-is-shortest : (choice : Choice) → Thrifty choice → (t : ℕ) (ws b : List ℕ) → BlockFor t ws b → length (blockBy choice t ws) ≤ length b
+thrifty-is-shortest choice h t ws b k = rw (← (k .reads)) (none-shorter t b (k .formed) (k .bytes) choice h)
 
 -- So none is shorter than the one by the rule's choice, which pack writes.
 pub no-block-is-shorter : (t : ℕ) (ws b : List ℕ) → BlockFor t ws b → length (block t ws) ≤ length b
 unfolding block
-no-block-is-shorter t ws b k = none-is-shorter dfcmChosen rule-is-thrifty t ws b k
+no-block-is-shorter t ws b k = thrifty-is-shortest dfcmChosen rule-is-thrifty t ws b k
 
 -- Nor than the one by the choice before request L2.
-pub no-block-was-shorter : (t : ℕ) (ws b : List ℕ) → BlockFor t ws b → length (blockBy dfcmChosenByBytes t ws) ≤ length b
-no-block-was-shorter t ws b k = none-is-shorter dfcmChosenByBytes before-was-thrifty t ws b k
+pub packed-before-is-shortest : (t : ℕ) (ws b : List ℕ) → BlockFor t ws b → length (blockBy dfcmChosenByBytes t ws) ≤ length b
+packed-before-is-shortest t ws b k = thrifty-is-shortest dfcmChosenByBytes before-was-thrifty t ws b k
 
--- The block by any choice is itself a block of its words; so, by such a choice, it is a shortest.
+-- The block by any choice is itself a block of its words. So the block by a thrifty choice is a shortest.
 pub block-is-for-its-words : (choice : Choice) (t : ℕ) (ws : List ℕ) → Words ws → length ws ≤ 65536 → BlockFor t ws (blockBy choice t ws)
 block-is-for-its-words choice t ws h few =
     record { bytes = chosen-bytes choice t ws; formed = takes-form _ (chosen-whole choice t ws few); reads = chosen-words choice t ws few h }
@@ -108,7 +100,7 @@ codes-need-room b h few l = checks-number b ∙ sym (too-short-for-codes b h few
 
 -- An accepted block reads as many words as it counts, with tables of any size.
 pub words-counted : (t : ℕ) (b : List ℕ) → checked b .number ≡ 0 → length (wordsIn t b) ≡ count b
-words-counted t b e = length-words t b (count b) (counted b (count b) (sym (checks-number b) ∙ e) refl)
+words-counted t b e = reads-count t b (takes-form b (sym (checks-number b) ∙ e))
 
 -- The t that is read off a table's length is its t.
 pub t-read-off : (t : ℕ) → t ≤ 16 → tOf (2 ^ t) ≡ t
@@ -159,6 +151,11 @@ one-run-is-three = refl
 pub bound-is-met : length (block 6 three) ≡ bound 6 three (record { runs = oneRun; whole = one-run-is-three })
 unfolding block blockBy arranged body residualBytes codedWord chosen codedBy written lowThree dfcmChosen fcmResidual dfcmResidual learn nextFcmHash nextDfcmHash difference fcmPrediction dfcmPrediction cleared add64 sub64 shiftedLeft shiftedRight lowBits xor zeroBytes leadingZeros runCost ofEqualWords
 bound-is-met = refl
+
+-- But with another t they may take less: 18 bytes at t = 0, and 26 at t = 6.
+pub another-t-may-take-less : (length (block 0 three) ≡ 18) × (length (block 6 three) ≡ 26)
+unfolding block blockBy arranged body residualBytes codedWord chosen codedBy written lowThree dfcmChosen fcmResidual dfcmResidual learn nextFcmHash nextDfcmHash difference fcmPrediction dfcmPrediction cleared add64 sub64 shiftedLeft shiftedRight lowBits xor zeroBytes leadingZeros
+another-t-may-take-less = (refl, refl)
 
 -- As many words as shift the old bits out, all equal, settle the fcm hash: it no longer depends on what it was, and stays.
 pub fcm-hash-settles : (t v k : ℕ) → t ≤ 6 * k → Settles (λ h. nextFcmHash t h v) t k

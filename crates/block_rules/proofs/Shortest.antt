@@ -1,4 +1,4 @@
--- No block is shorter: what the bytes of any well-formed block read as, whoever packed them, and what they cost at least.
+-- No block is shorter: what the bytes of any block that can be read read as, whoever packed them, and what they cost at least.
 use mathlib.Core.Path.{_≡_, refl, ap}
 use mathlib.Core.List.{List, [], _∷_}
 use Prim.Native.Nat.{ℕ, zero, suc, _^_, _≤_, _<_}
@@ -62,7 +62,7 @@ none-cheaper choice thrifty t (c ∷ cs) m (more h f) =
       none-cheaper choice thrifty t cs (learn t m v) f,
     )
 
--- ---- the blocks of bytes that are well-formed
+-- ---- blocks that can be read
 
 module _ (t : ℕ) (b : List ℕ) (formed : formNumber b ≡ 0) where
   pub reads-count : length (wordsIn t b) ≡ count b

@@ -37,7 +37,7 @@ packNumber n f d room =
 unfoldable pub fillerStands : List ℕ → Bool
 fillerStands b = cond (eqb (count b % 2) 1) (eqb (lastHalf b) 7) true
 
--- the number for the form of the block b: 4, 2, 5, 6; where it is 0 the block is well-formed
+-- the number for the form of the block b: 4, 2, 5, 6; where it is 0 the block can be read
 unfoldable pub formNumber : List ℕ → ℕ
 formNumber b =
     firstFailure

@@ -1,4 +1,4 @@
--- How much room a block needs: words cut into runs, what each run may cost, the bound, and how soon a hash settles.
+-- How much room a block needs: words cut into runs, what each run may cost, the bound, how soon a hash settles; and the blocks that are compared with it.
 use mathlib.Core.Path.{_≡_}
 use Prim.Native.Nat.{ℕ, zero, suc, _+_, _*_, _/_, _%_, _^_, min, _<_}
 use mathlib.Core.List.{List, [], _∷_, _++_}
@@ -6,6 +6,9 @@ use mathlib.Core.Bool.{Bool, cond, _||_}
 use lib.Dec.{leb, eqb}
 use lib.ListN.{length}
 use Rattle.words.specs.Words.{add64}
+use Rattle.words.specs.Bytes.{Bytes}
+use Rattle.block_rules.specs.Block.{wordsIn}
+use Rattle.block_rules.specs.Numbers.{formNumber}
 
 -- a run: its first word, the one fixed amount by which each word differs from the one before, and how many words it has
 pub record Run : Type 0 where
@@ -64,3 +67,11 @@ times (suc k) update h = times k update (update h)
 pub record Settles (update : ℕ → ℕ) (t k : ℕ) : Type 0 where
   pub forgets : (h g : ℕ) → h < 2 ^ t → g < 2 ^ t → times k update h ≡ times k update g
   pub stays : (h : ℕ) → h < 2 ^ t → times (suc k) update h ≡ times k update h
+
+-- ---- the blocks of some words
+
+-- b is a block of the words ws, with tables of 2 ^ t words, whoever packed it: bytes that can be read, and that read as these words
+pub record BlockFor (t : ℕ) (ws b : List ℕ) : Type 0 where
+  pub bytes : Bytes b
+  pub formed : formNumber b ≡ 0
+  pub reads : wordsIn t b ≡ ws

@@ -227,7 +227,7 @@ abbrev pub givenWords : Unpacked → List ℕ → List ℕ
 givenWords s room' = take (s .count) room'
 
 -- Whoever packed them: of all bytes for which unpack, with tables of the size that pack had, answers 0 and gives the words that were packed, none are fewer than the
--- length that an accepted pack answered.
+-- length that an accepted pack answered. (That dfcm's table has the same size follows from the answer 0.)
 pub pack-is-shortest : {words fcm dfcm out f' d' out' b f₂ d₂ room f₂' d₂' room' : List ℕ} {r : Packed} {s : Unpacked}
     → Packs words fcm dfcm out r f' d' out' → r .number ≡ 0
     → Bytes b → Unpacks b f₂ d₂ room s f₂' d₂' room' → length f₂ ≡ length fcm → s .number ≡ 0 → givenWords s room' ≡ words
