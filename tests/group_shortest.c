@@ -82,17 +82,6 @@ static void read_and_packed(size_t length, size_t count, uint32_t t)
     must_hold(packed.first <= length, "the block of what was read is no longer");
 }
 
-static void forged_blocks(unsigned rounds)
-{
-    for (unsigned round = 0; round < 60 * rounds; round++) {
-        size_t count = random_below(2) ? random_below(10) : random_below(200);
-        uint32_t t = (uint32_t)(round % 17);
-        size_t length = forge_block(rival, count);
-        this_case_is("forged block to pack again, t = %u, %zu words, round %u", t, count, round);
-        read_and_packed(length, count, t);
-    }
-}
-
 /* All residual bytes of some values, one after another. */
 static void every_residual(size_t at, size_t length, size_t count, uint32_t t)
 {
@@ -135,7 +124,7 @@ void group_shortest(unsigned rounds)
     as_short = 0;
     every_kind_and_t("a rival", rounds, words, MOST, against_a_rival);
     must_hold(longer > 0 && as_short > 0, "some rivals are longer, and some as short with other bytes");
-    forged_blocks(rounds);
+    every_forged_block("a forged block, packed again", rounds, rival, read_and_packed);
     for (uint32_t t = 0; t <= 2; t++) {
         for (size_t count = 0; count <= 3; count++) {
             every_short_block(count, 3, t);

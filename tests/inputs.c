@@ -55,6 +55,17 @@ size_t forge_block(uint8_t *block, size_t count)
     return length;
 }
 
+void every_forged_block(const char *title, unsigned rounds, uint8_t *block, try_forged *try)
+{
+    for (unsigned round = 0; round < 60 * rounds; round++) {
+        size_t count = random_below(2) ? random_below(10) : random_below(200);
+        uint32_t t = (uint32_t)(round % 17);
+        size_t length = forge_block(block, count);
+        this_case_is("%s, t = %u, %zu words, round %u", title, t, count, round);
+        try(length, count, t);
+    }
+}
+
 static void write_trailer(exam_file *f)
 {
     uint8_t *trailer = trailer_of(f);

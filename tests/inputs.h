@@ -29,6 +29,10 @@ void every_kind_and_t(const char *title, unsigned rounds, uint64_t *words, size_
 /* A block of random codes and random residual bytes, well formed. Answers its length. */
 size_t forge_block(uint8_t *block, size_t count);
 
+/* Such blocks with every t, at most 200 words each: made and then tried. */
+typedef void try_forged(size_t length, size_t count, uint32_t t);
+void every_forged_block(const char *title, unsigned rounds, uint8_t *block, try_forged *try);
+
 typedef struct {
     uint8_t *bytes;
     size_t capacity;

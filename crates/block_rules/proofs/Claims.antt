@@ -81,7 +81,7 @@ no-block-is-shorter t ws b k = thrifty-is-shortest dfcmChosen rule-is-thrifty t 
 pub packed-before-is-shortest : (t : ℕ) (ws b : List ℕ) → BlockFor t ws b → length (blockBy dfcmChosenByBytes t ws) ≤ length b
 packed-before-is-shortest t ws b k = thrifty-is-shortest dfcmChosenByBytes before-was-thrifty t ws b k
 
--- The block by any choice is itself a block of its words. So the block by a thrifty choice is a shortest.
+-- The block by any choice is itself a block of its words, where they are at most 65,536 and below 2^64. So the block by a thrifty choice is a shortest.
 pub block-is-for-its-words : (choice : Choice) (t : ℕ) (ws : List ℕ) → Words ws → length ws ≤ 65536 → BlockFor t ws (blockBy choice t ws)
 block-is-for-its-words choice t ws h few =
     record { bytes = chosen-bytes choice t ws; formed = takes-form _ (chosen-whole choice t ws few); reads = chosen-words choice t ws few h }

@@ -233,9 +233,9 @@ pub pack-is-shortest : {words fcm dfcm out f' d' out' b f₂ d₂ room f₂' d�
     → Bytes b → Unpacks b f₂ d₂ room s f₂' d₂' room' → length f₂ ≡ length fcm → s .number ≡ 0 → givenWords s room' ≡ words
     → r .length ≤ length b
 pack-is-shortest {b = b} p e h u same z gives =
-    let whole = unpackable _ _ _ _ (sym (where-number u) ∙ z) .whole in
-    let reads = sym (given-words whole (where-all u z)) ∙ gives in
-    rw (packs-all-of p e .size) (no-block-is-shorter _ _ _ (record { bytes = h; formed = takes-form b whole; reads = rw same at reads }))
+    let taken = unpackable _ _ _ _ (sym (where-number u) ∙ z) .whole in
+    let reads = sym (given-words taken (where-all u z)) ∙ gives in
+    rw (packs-all-of p e .size) (no-block-is-shorter _ _ _ (record { bytes = h; formed = takes-form b taken; reads = rw same at reads }))
 
 -- ---- how much room a block needs
 
