@@ -80,6 +80,8 @@ static const char *what_to_do(uint32_t number)
         return "slots ascend: append above the last, or begin another file; a slot that is there can be replaced";
     case COIL_FILE_FULL:
         return "the file has its 1,024 maps: begin another file";
+    case COIL_BAD_RECORD:
+        return "a record of a list reaches beyond the words: mend its first or count, and go on from there";
     default:
         return "no such number: header and library are not of one version";
     }
@@ -349,7 +351,8 @@ int main(int argc, char **argv)
     store(replace_map(length, 1, MOVED_COIL));
     load_all(ALL_MAPS);
     printf("what to do for each number:\n");
-    for (uint32_t number = 0; number <= COIL_FILE_FULL; number++)
-        printf("%6u  %s\n", (unsigned)number, what_to_do(number));
+    for (uint32_t number = 0; number <= COIL_BAD_RECORD; number++)
+        if (number <= COIL_FILE_FULL || number == COIL_BAD_RECORD)      /* no call answers 13 or 14 */
+            printf("%6u  %s\n", (unsigned)number, what_to_do(number));
     return 0;
 }

@@ -1,4 +1,5 @@
-/* Keeps the coil sensitivity maps of one exam in one file, reads one back and replaces it.
+/* Keeps the coil sensitivity maps of one exam in one file: stores sixteen by one call, reads one back, appends one more
+ * from a list that is refused then, and replaces one.
  *
  * The memory here is static and sized by the macros of coil.h. The file stays in memory: exam_on_disk.c, beside
  * this one, keeps it on disk.
@@ -9,20 +10,21 @@
 #include <stdlib.h>
 #include <string.h>
 
-#define MAPS 16u                    /* one slot a coil */
-#define MOVED_COIL 16u              /* a place where none of the coils is */
+#define MAPS 16u                    /* one slot a coil; one map more is appended later */
+#define MOVED_COIL 16u              /* two places where none of these coils is */
+#define ADDED_COIL 17u
 #define SIDE 64u                    /* a map is SIDE x SIDE values */
 #define VALUES (SIDE * SIDE)
 #define T 10u                       /* tables of 2^10 words */
 #define EXAM UINT64_C(20240117)
 
 /* Room for every map at its worst; the maps will need far less. */
-static uint8_t file[COIL_FILE_ROOM(MAPS, VALUES)];
+static uint8_t file[COIL_FILE_ROOM(MAPS + 1, VALUES)];
 static uint8_t bench[COIL_WORST(VALUES)];
 static uint64_t fcm[COIL_TABLE_WORDS(T)];
 static uint64_t dfcm[COIL_TABLE_WORDS(T)];
-static double map[VALUES];
-static uint64_t words[VALUES];
+static uint64_t words[MAPS * VALUES];       /* the maps of all coils, one behind the other */
+static uint64_t map[VALUES];                /* one map */
 static uint64_t fetched[VALUES];
 
 /* Every answer is looked at: a call that was not done must not go by unseen. */
@@ -36,7 +38,7 @@ static void must_be(uint32_t expected, uint32_t answer, const char *what)
 
 /* A made map: the coil sees more of what is near. Outside a disc is air, 0: about 80 % of the area.
  * Only +, -, * and / on doubles, so that C99 compilers agree on the bits. */
-static void make_map(unsigned coil)
+static void make_map(unsigned coil, uint64_t *to)
 {
     double coil_x = (double)(coil % 4) * 20.0 + 2.0;
     double coil_y = (double)(coil / 4) * 20.0 + 2.0;
@@ -45,28 +47,38 @@ static void make_map(unsigned coil)
         double y = (double)(i / SIDE);
         double from_middle = (x - 31.5) * (x - 31.5) + (y - 31.5) * (y - 31.5);
         double from_coil = (x - coil_x) * (x - coil_x) + (y - coil_y) * (y - coil_y);
-        map[i] = from_middle < 260.0 ? 1.0 / (1.0 + from_coil / 400.0) : 0.0;
+        double value = from_middle < 260.0 ? 1.0 / (1.0 + from_coil / 400.0) : 0.0;
+        memcpy(&to[i], &value, sizeof value);
     }
-    memcpy(words, map, sizeof words);
 }
 
 static size_t store_all_maps(void)
 {
-    size_t length;
+    coil_record records[MAPS];
+    size_t length, appended, new_length;
+    for (uint32_t slot = 0; slot < MAPS; slot++) {
+        records[slot].slot = slot;
+        records[slot].first = (size_t)slot * VALUES;
+        records[slot].count = VALUES;
+        make_map(slot, words + records[slot].first);
+    }
     must_be(COIL_DONE, coil_create(file, sizeof file, EXAM, T, &length), "create");
     printf("created an empty file of %zu bytes\n", length);
-    for (uint32_t slot = 0; slot < MAPS; slot++) {
-        size_t new_length;
-        make_map(slot);
-        must_be(COIL_DONE, coil_append(file, sizeof file, length, EXAM, slot, words, VALUES,
+    must_be(COIL_DONE, coil_append_all(file, sizeof file, length, EXAM, records, MAPS, words, MAPS * VALUES,
                                        fcm, COIL_TABLE_WORDS(T), dfcm, COIL_TABLE_WORDS(T),
-                                       bench, sizeof bench, &new_length), "append");
-        printf("slot %2u: %zu bytes of values, the file grew by %zu\n", (unsigned)slot, sizeof words,
-               new_length - length);
-        length = new_length;
+                                       bench, sizeof bench, &appended, &new_length), "append all");
+    printf("%zu maps of %zu bytes were appended in one call: the file has %zu bytes\n", appended, sizeof map,
+           new_length);
+    return new_length;
+}
+
+static void print_blocks(size_t length)
+{
+    for (uint32_t slot = 0; slot < MAPS; slot++) {
+        size_t offset, block_length;
+        must_be(COIL_DONE, coil_find(file, sizeof file, length, EXAM, slot, &offset, &block_length), "find");
+        printf("slot %2u: %zu bytes of values, a block of %zu\n", (unsigned)slot, sizeof map, block_length);
     }
-    printf("%u maps of %zu bytes are kept in a file of %zu bytes\n", MAPS, sizeof words, length);
-    return length;
 }
 
 /* Every bit of a slot is compared with the map of a coil. */
@@ -75,8 +87,8 @@ static void must_hold_map_of(size_t length, uint32_t slot, unsigned coil)
     size_t count;
     must_be(COIL_DONE, coil_fetch(file, sizeof file, length, EXAM, slot, fcm, COIL_TABLE_WORDS(T),
                                   dfcm, COIL_TABLE_WORDS(T), fetched, VALUES, &count), "fetch");
-    make_map(coil);
-    if (count != VALUES || memcmp(fetched, words, sizeof words) != 0) {
+    make_map(coil, map);
+    if (count != VALUES || memcmp(fetched, map, sizeof map) != 0) {
         printf("slot %u came back different\n", (unsigned)slot);
         exit(1);
     }
@@ -96,24 +108,43 @@ static void read_back(size_t length, uint32_t slot)
     printf("fetched %u values of slot %u, every bit as it was\n", VALUES, (unsigned)slot);
 }
 
+/* Two coils more, and the words of one: the second record is refused, since it reaches beyond the words. What went in
+ * before it stays, so the new length counts. To go on, mend the record and lend records + appended. */
+static size_t append_up_to_a_refusal(size_t length)
+{
+    const coil_record records[2] = { { MAPS, 0, VALUES }, { MAPS + 1, VALUES, VALUES } };
+    size_t appended, new_length;
+    make_map(ADDED_COIL, map);
+    must_be(COIL_BAD_RECORD, coil_append_all(file, sizeof file, length, EXAM, records, 2, map, VALUES,
+                                             fcm, COIL_TABLE_WORDS(T), dfcm, COIL_TABLE_WORDS(T),
+                                             bench, sizeof bench, &appended, &new_length), "append two with one map");
+    printf("a list of two with the words of one: refused with %u, %zu went in and stays, the file has %zu bytes\n",
+           (unsigned)COIL_BAD_RECORD, appended, new_length);
+    must_hold_map_of(new_length, MAPS, ADDED_COIL);
+    return new_length;
+}
+
 /* One coil was moved and calibrated again. COIL_FILE_ROOM is room enough to replace any map by any other. */
 static void replace_map(size_t length, uint32_t slot)
 {
     size_t new_length;
-    make_map(MOVED_COIL);
-    must_be(COIL_DONE, coil_replace(file, sizeof file, length, EXAM, slot, words, VALUES,
+    make_map(MOVED_COIL, map);
+    must_be(COIL_DONE, coil_replace(file, sizeof file, length, EXAM, slot, map, VALUES,
                                     fcm, COIL_TABLE_WORDS(T), dfcm, COIL_TABLE_WORDS(T),
                                     bench, sizeof bench, &new_length), "replace");
     printf("replaced slot %u: the file had %zu bytes and has %zu\n", (unsigned)slot, length, new_length);
     for (uint32_t each = 0; each < MAPS; each++)
         must_hold_map_of(new_length, each, each == slot ? MOVED_COIL : each);
+    must_hold_map_of(new_length, MAPS, ADDED_COIL);
     printf("slot %u gives the new map, every other slot its own, every bit as it was\n", (unsigned)slot);
 }
 
 int main(void)
 {
     size_t length = store_all_maps();
+    print_blocks(length);
     read_back(length, 11);
+    length = append_up_to_a_refusal(length);
     replace_map(length, 11);
     return 0;
 }

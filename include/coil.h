@@ -22,21 +22,26 @@
  * The C side is checked by nothing. These four rules are yours to keep, and breaking one is undefined:
  *
  *   1. Each pointer must be valid for its length. The length of a byte buffer is in bytes, the length
- *      of a word buffer is in words of 8 bytes.
- *   2. Each pointer to words must be aligned for uint64_t, each pointer to a number for size_t.
+ *      of a word buffer is in words of 8 bytes, the length of a list of records is in records of 24 bytes.
+ *   2. Each pointer to words must be aligned for uint64_t, each pointer to a number for size_t, the pointer
+ *      to records for coil_record.
  *   3. No pointer may be null, not even where the length is 0.
- *   4. The buffers and numbers of one call must not overlap.
+ *   4. The buffers, the list of records and the numbers of one call must not overlap.
  *
  * WHAT IS ANSWERED
  *
- * Every call answers one number, 0 to 12, listed below. 0 is success.
+ * Every call answers one number, 0 to 12 or 15, listed below. 0 is success.
  *
  *   On success, each lent number holds its result. Each buffer written holds its result first and its
- *   old content beyond; only coil_replace clears more, where a file gets shorter. Both tables hold the
- *   state of the predictors after the last word.
+ *   old content beyond; only coil_replace clears more, where a file gets shorter, and coil_append_all leaves in
+ *   its bench, beyond the last block, what its blocks before left there. Both tables hold the state of the
+ *   predictors after the last word.
  *
- *   On a refusal, each lent number (length, count, offset, block_length, new_length) is 0. Nothing
- *   else you lent has changed, the tables included.
+ *   On a refusal, each lent number (length, count, offset, block_length, appended, new_length) is 0. Nothing
+ *   else you lent has changed, the tables included. There is one exception: where coil_append_all refuses a
+ *   record that is not its first, the maps before that record stay in the file, appended and new_length say
+ *   how many they are and how long the file is now, and the tables and the bench are as those maps left them.
+ *   The refused record itself has changed nothing.
  *
  * Where several rules are broken, the first check of the call's list answers.
  *
@@ -108,7 +113,7 @@ extern "C" {
 #define COIL_REPLACE_ROOM(length, block_length, n) \
     ((size_t)(length) + (COIL_WORST(n) > (size_t)(block_length) ? COIL_WORST(n) - (size_t)(block_length) : 0))
 
-/* Bytes of buffer in which k maps of at most n words can be kept, one append after the other, each replaced
+/* Bytes of buffer in which k maps of at most n words can be kept, appended one by one or as a list, each replaced
  * as often as you like. For maps of different lengths add COIL_APPEND_ROOM(0, n) of each to COIL_EMPTY_FILE, with
  * the larger n where a map is to be replaced by a longer one. A file has at most COIL_MOST_ENTRIES maps and
  * COIL_MOST_FILE_BYTES bytes: beyond that an append answers 12 or 3, and a replace 3. */
@@ -123,8 +128,8 @@ extern "C" {
 #define COIL_BAD_TABLES 1u
 /* More than 65,536 words given, or declared by the block. */
 #define COIL_TOO_MANY_WORDS 2u
-/* A buffer you lent for the result has not enough room; or COIL_APPEND_ROOM, for an append, or
- * COIL_REPLACE_ROOM, for a replace, passes 16,777,216 bytes. */
+/* A buffer you lent for the result has not enough room; or COIL_APPEND_ROOM, for an append (each record of
+ * coil_append_all is one), or COIL_REPLACE_ROOM, for a replace, passes 16,777,216 bytes. */
 #define COIL_NO_ROOM 3u
 /* The block is under 8 bytes, or the file under 32; or the file's length is beyond its buffer. */
 #define COIL_TOO_SHORT 4u
@@ -141,10 +146,13 @@ extern "C" {
 #define COIL_BAD_DIRECTORY 9u
 /* The slot is not in the file. */
 #define COIL_NO_SUCH_SLOT 10u
-/* Append: the slot is not above the last slot of the file. */
+/* Append, and each record of coil_append_all: the slot is not above the last slot that the file has by then. */
 #define COIL_SLOT_NOT_ABOVE 11u
-/* Append: the file has 1,024 entries already. */
+/* Append, and each record of coil_append_all: the file has 1,024 entries already. */
 #define COIL_FILE_FULL 12u
+/* A record of coil_append_all: its first word plus its count is above the length of the word buffer. (13 and 14 are
+ * not used.) */
+#define COIL_BAD_RECORD 15u
 
 /* ---- Blocks ----------------------------------------------------------------------------------- */
 
@@ -271,6 +279,55 @@ uint32_t coil_append(uint8_t *file, size_t file_len, size_t length, uint64_t exa
                      const uint64_t *words, size_t words_len,
                      uint64_t *fcm, size_t fcm_len, uint64_t *dfcm, size_t dfcm_len,
                      uint8_t *bench, size_t bench_len, size_t *new_length);
+
+/* A map of a list: its slot, and its words, which are words[first] up to words[first + count - 1] of the one word
+ * buffer that is lent with the list. sizeof(coil_record) is 24. What lies between the fields is not read. */
+typedef struct coil_record {
+    uint32_t slot;
+    size_t first;
+    size_t count;
+} coil_record;
+
+/* Append the maps of a list, one after another, up to the first that is refused. The outcome is that of coil_append
+ * called for each record in turn: the same file, tables and bench.
+ *
+ *   file, file_len     the buffer; each append asks for COIL_APPEND_ROOM of the length reached by then. For k records
+ *                      of at most n words COIL_FILE_ROOM(k, n) bytes are enough where the file has no slot yet, and
+ *                      length + k * COIL_APPEND_ROOM(0, n) always (the limit of a file's length holds beside)
+ *   length, exam       as for coil_open
+ *   records            the list; read only. Each slot must be above the one before, and the first above every slot
+ *                      in the file
+ *   records_len        how many; there may be none, and more than the file can take (then 12 is answered)
+ *   words, words_len   the words of all the maps; read only. Records may take them in any order, share them, leave
+ *                      some out, and have none (a count of 0)
+ *   fcm, dfcm          the two tables, of 2^t words with the file's t; cleared and used for each record
+ *   bench, bench_len   room to pack in; lend at least COIL_WORST(n) bytes, with the largest count n
+ *   appended           becomes the number of maps that went in
+ *   new_length         becomes the file's new length, and 0 where the call is refused with none in: lend another
+ *                      variable than the one that holds the old length, which is still right then
+ *
+ * Checks in order: open (4, 7, 8, 9). Then for each record: 15 first + count above words_len (a sum that would wrap
+ * is above it too); 12 file has 1,024 entries; 11 slot not above the last; 1 tables; 2 count above 65,536; 3 as for
+ * coil_append, with the length reached by then.
+ * On success *appended is records_len, and the last map's block is also in the first bytes of bench; beyond it stands
+ * what the blocks before left there. Earlier blocks are where they were, and the buffer beyond *new_length is as it
+ * was. A list without a record changes nothing: where the file opens, 0 is answered, *appended is 0 and *new_length
+ * is length; nothing else is looked at.
+ * On a refusal records[*appended] is the record that was refused, unless the file did not open. The maps before it
+ * stay in the file, which has *new_length bytes and opens; the tables and the bench are as the last of them left
+ * them. With none in, *appended and *new_length are 0 and nothing has changed. So, refused or not:
+ *
+ *     if (new_length != 0)
+ *         length = new_length;
+ *
+ * To go on after a refusal, mend that record, or lend what was too small, and call again with that length, records +
+ * appended and records_len - appended; after 12, with another file. To have all maps or none, work on a copy of the
+ * buffer: maps that went in cannot be taken out. */
+uint32_t coil_append_all(uint8_t *file, size_t file_len, size_t length, uint64_t exam,
+                         const coil_record *records, size_t records_len,
+                         const uint64_t *words, size_t words_len,
+                         uint64_t *fcm, size_t fcm_len, uint64_t *dfcm, size_t dfcm_len,
+                         uint8_t *bench, size_t bench_len, size_t *appended, size_t *new_length);
 
 /* Replace the words of a slot that is in the file. The file may get longer or shorter.
  *

@@ -11,6 +11,7 @@
 #define ref_find coil_find
 #define ref_fetch coil_fetch
 #define ref_append coil_append
+#define ref_append_all coil_append_all
 #define ref_replace coil_replace
 /* of the reference alone */
 #define ref_pack_before coil_pack_before

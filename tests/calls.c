@@ -1,6 +1,5 @@
 /* See calls.h. */
 #include "calls.h"
-#include "coil.h"
 #include "lent.h"
 #include "reference.h"
 #include "words.h"
@@ -15,8 +14,9 @@
 #define BLOCK_BYTES ((size_t)600000)
 #define WORD_BYTES ((size_t)8 * 65600)
 #define TABLE_BYTES ((size_t)8 << 17)
+#define RECORD_BYTES (sizeof(coil_record) * 1100)
 
-static lent the_file, the_block, the_words, the_fcm, the_dfcm, the_first, the_second;
+static lent the_file, the_block, the_words, the_records, the_fcm, the_dfcm, the_first, the_second;
 
 static uint64_t seed_in_use;
 static bool stops_at_first;
@@ -32,6 +32,7 @@ void prepare_calls(uint64_t seed, bool stop_at_first)
     lent_prepare(&the_file, "file", FILE_BYTES);
     lent_prepare(&the_block, "block", BLOCK_BYTES);
     lent_prepare(&the_words, "words", WORD_BYTES);
+    lent_prepare(&the_records, "records", RECORD_BYTES);
     lent_prepare(&the_fcm, "fcm", TABLE_BYTES);
     lent_prepare(&the_dfcm, "dfcm", TABLE_BYTES);
     lent_prepare(&the_first, "first number", 8);
@@ -114,6 +115,18 @@ typedef struct {
     use_of_lent use;
 } loan;
 
+/* What must be so after a call, beside both sides being equal. */
+typedef struct {
+    bool all_is_kept;           /* nothing is changed that the call may write, but for the numbers */
+    bool numbers_are_0;
+} demands;
+
+static demands where_refused(uint32_t answer)
+{
+    demands both = { answer != 0, answer != 0 };
+    return both;
+}
+
 static size_t number_of(const lent *l)
 {
     size_t number;
@@ -121,16 +134,16 @@ static size_t number_of(const lent *l)
     return number;
 }
 
-static bool loan_is_right(const char *call, const loan *given, uint32_t answer)
+static bool loan_is_right(const char *call, const loan *given, demands asked)
 {
-    bool unchanged = given->use == ONLY_READ || (given->use == WRITTEN && answer != 0);
+    bool unchanged = given->use == ONLY_READ || (given->use == WRITTEN && asked.all_is_kept);
     const char *fault = lent_fault(given->what, unchanged);
     if (fault != NULL) {
         fail(call, fault);
         lent_print_difference(given->what, unchanged);
         return false;
     }
-    if (given->use == A_NUMBER && answer != 0 && number_of(given->what) != 0) {
+    if (given->use == A_NUMBER && asked.numbers_are_0 && number_of(given->what) != 0) {
         fail(call, "a refusal left a number that is not 0");
         return false;
     }
@@ -138,7 +151,8 @@ static bool loan_is_right(const char *call, const loan *given, uint32_t answer)
 }
 
 /* Compares everything after both sides were called. */
-static void judge(const char *call, uint32_t library, uint32_t reference, const loan *loans, size_t count)
+static void judge(const char *call, uint32_t library, uint32_t reference, demands asked,
+                  const loan *loans, size_t count)
 {
     bool right = true;
     if (library != reference) {
@@ -148,7 +162,7 @@ static void judge(const char *call, uint32_t library, uint32_t reference, const 
         right = false;
     }
     for (size_t i = 0; i < count; i++) {
-        right = loan_is_right(call, &loans[i], reference) && right;
+        right = loan_is_right(call, &loans[i], asked) && right;
     }
     if (right) {
         compared++;
@@ -156,7 +170,9 @@ static void judge(const char *call, uint32_t library, uint32_t reference, const 
     stop_where_enough();
 }
 
-#define JUDGE(call, loans) judge(call, library, reference, loans, sizeof loans / sizeof loans[0])
+#define JUDGE_AS(call, asked, loans) \
+    judge(call, library, reference, asked, loans, sizeof loans / sizeof loans[0])
+#define JUDGE(call, loans) JUDGE_AS(call, where_refused(reference), loans)
 
 static outcome result_of(uint32_t answer)
 {
@@ -369,5 +385,114 @@ outcome compare_replace(lent_file file, uint32_t slot, const uint64_t *words, si
     if (result.answer == 0) {
         beyond_is_right(file, result.first);
     }
+    return result;
+}
+
+/* ---- A list of appends ---- */
+
+/* Both sides are lent the same bytes as records. */
+typedef char laid_out_alike[sizeof(ref_record) == sizeof(coil_record)
+                            && offsetof(ref_record, slot) == offsetof(coil_record, slot)
+                            && offsetof(ref_record, first) == offsetof(coil_record, first)
+                            && offsetof(ref_record, count) == offsetof(coil_record, count) ? 1 : -1];
+
+/* Field by field: what lies between the fields is random, since no call may look at it. */
+static void lend_records(const coil_record *records, size_t count)
+{
+    static uint8_t bytes[RECORD_BYTES];
+    random_bytes(bytes, count * sizeof(coil_record));
+    for (size_t i = 0; i < count; i++) {
+        uint8_t *record = bytes + i * sizeof(coil_record);
+        memcpy(record + offsetof(coil_record, slot), &records[i].slot, sizeof records[i].slot);
+        memcpy(record + offsetof(coil_record, first), &records[i].first, sizeof records[i].first);
+        memcpy(record + offsetof(coil_record, count), &records[i].count, sizeof records[i].count);
+    }
+    lent_set(&the_records, bytes, count * sizeof(coil_record), count * sizeof(coil_record));
+}
+
+static void *copy_of(const lent *l)
+{
+    void *copy = malloc(l->size + 1);
+    if (copy == NULL) {
+        printf("no memory for a copy of the %s\n", l->name);
+        exit(2);
+    }
+    memcpy(copy, lent_before(l), l->size);
+    return copy;
+}
+
+/* Whether the library left this in what it was lent. Frees the copy. */
+static bool is_left(const lent *l, void *copy)
+{
+    bool same = memcmp(lent_library(l), copy, l->size) == 0;
+    free(copy);
+    return same;
+}
+
+static bool number_is_left(const lent *l, size_t number)
+{
+    return memcmp(lent_library(l), &number, sizeof number) == 0;
+}
+
+/* The library once more, with a loop of appends: the same number, count and length, and the same bytes. */
+static void one_after_another(uint32_t library, lent_file file, const coil_record *records, size_t records_len)
+{
+    uint8_t *bytes = copy_of(&the_file), *bench = copy_of(&the_block);
+    uint64_t *words = copy_of(&the_words), *fcm = copy_of(&the_fcm), *dfcm = copy_of(&the_dfcm);
+    size_t words_len = the_words.size / 8, appended = 0, reached = file.length;
+    uint32_t answer = coil_open(bytes, file.buffer, file.length, file.exam);
+    while (answer == COIL_DONE && appended < records_len) {
+        coil_record next = records[appended];
+        bool inside = next.count <= words_len && next.first <= words_len - next.count;
+        size_t longer = 0;
+        answer = !inside ? COIL_BAD_RECORD
+               : coil_append(bytes, file.buffer, reached, file.exam, next.slot, words + next.first, next.count,
+                             fcm, the_fcm.size / 8, dfcm, the_dfcm.size / 8, bench, the_block.size, &longer);
+        if (answer == COIL_DONE) {
+            appended++;
+            reached = longer;
+        }
+    }
+    bool refused_at_once = answer != COIL_DONE && appended == 0;
+    bool same = library == answer && number_is_left(&the_second, appended)
+             && number_is_left(&the_first, refused_at_once ? 0 : reached);
+    same = is_left(&the_file, bytes) && same;
+    same = is_left(&the_block, bench) && same;
+    same = is_left(&the_words, words) && same;
+    same = is_left(&the_fcm, fcm) && same;
+    same = is_left(&the_dfcm, dfcm) && same;
+    count_comparison("append_all, against appends one after another", same);
+}
+
+outcome compare_append_all(lent_file file, const coil_record *records, size_t records_len,
+                           const uint64_t *words, size_t words_len, table_sizes tables, size_t bench_len)
+{
+    lend_file(file);
+    lend_records(records, records_len);
+    lent_set(&the_words, words, 8 * words_len, 8 * words_len);
+    lent_set(&the_block, NULL, 0, bench_len);
+    lend_tables(tables);
+    lend_numbers();
+    const coil_record *for_library = (const coil_record *)(const void *)lent_library(&the_records);
+    const ref_record *for_reference = (const ref_record *)(const void *)lent_reference(&the_records);
+    uint32_t library = coil_append_all(LIB(the_file), file.length, file.exam, for_library, records_len,
+                                       LIB_WORDS(the_words), LIB_WORDS(the_fcm), LIB_WORDS(the_dfcm),
+                                       LIB(the_block), LIB_NUMBER(the_second), LIB_NUMBER(the_first));
+    uint32_t reference = ref_append_all(REF(the_file), file.length, file.exam, for_reference, records_len,
+                                        REF_WORDS(the_words), REF_WORDS(the_fcm), REF_WORDS(the_dfcm),
+                                        REF(the_block), REF_NUMBER(the_second), REF_NUMBER(the_first));
+    const loan loans[] = {
+        { &the_file, WRITTEN }, { &the_records, ONLY_READ }, { &the_words, ONLY_READ }, { &the_fcm, WRITTEN },
+        { &the_dfcm, WRITTEN }, { &the_block, WRITTEN }, { &the_first, A_NUMBER }, { &the_second, A_NUMBER }
+    };
+    /* A refusal keeps what went in before it. Where nothing went in, all is as it was, refused or not. */
+    bool none_in = number_of(&the_second) == 0;
+    demands asked = { none_in, none_in && reference != 0 };
+    JUDGE_AS("append_all", asked, loans);
+    one_after_another(library, file, records, records_len);
+    outcome result = result_of(reference);
+    result.first = number_of(&the_first);
+    result.second = number_of(&the_second);
+    result.bytes = lent_reference(&the_file);
     return result;
 }

@@ -4,6 +4,8 @@
 #ifndef CALLS_H
 #define CALLS_H
 
+#include "coil.h"
+
 #include <stdbool.h>
 #include <stddef.h>
 #include <stdint.h>
@@ -11,10 +13,10 @@
 typedef struct {
     uint32_t answer;            /* all as the reference gave them */
     size_t first;               /* length, count, offset or new length */
-    size_t second;              /* find: the block's length */
-    const uint8_t *bytes;       /* pack: the block; append, replace: the file. Until the next call. */
+    size_t second;              /* find: the block's length; append_all: how many went in */
+    const uint8_t *bytes;       /* pack: the block; append, append_all, replace: the file. Until the next call. */
     const uint64_t *words;      /* unpack, fetch: the words. Until the next call. */
-    const uint8_t *bench;       /* append, replace: the bench. Until the next call. */
+    const uint8_t *bench;       /* append, append_all, replace: the bench. Until the next call. */
     const uint64_t *fcm;        /* the tables, where the call was lent some. Until the next call. */
     const uint64_t *dfcm;
 } outcome;
@@ -49,6 +51,9 @@ outcome compare_find(lent_file file, uint32_t slot);
 outcome compare_fetch(lent_file file, uint32_t slot, table_sizes tables, size_t room);
 outcome compare_append(lent_file file, uint32_t slot, const uint64_t *words, size_t count,
                        table_sizes tables, size_t bench_len);
+/* Compares also with appends of the library, one after another, on a further copy of all that was lent. */
+outcome compare_append_all(lent_file file, const coil_record *records, size_t records_len,
+                           const uint64_t *words, size_t words_len, table_sizes tables, size_t bench_len);
 outcome compare_replace(lent_file file, uint32_t slot, const uint64_t *words, size_t count,
                         table_sizes tables, size_t bench_len);
 

@@ -7,13 +7,14 @@
 # Runs with this machine's own compiler where there is one, as no library is needed. Builds in
 # target/tests/can_fail, where the log of each slip stays.
 set -u
+export LC_ALL=C             # the source is cut at each slip, and by bytes that is much faster
 tests=$(cd "$(dirname "${BASH_SOURCE[0]}")" && pwd)
 build=$tests/../target/tests/can_fail
 compiler=${CC:-cc}
 runner=()
 flags=(-std=c99 -I "$tests/../include" -I "$tests")
-parts=(compare calls lent words inputs group_blocks group_before group_files group_replace group_order group_damage
-    group_far group_shortest)
+parts=(compare calls lent words inputs group_blocks group_before group_files group_replace group_many group_order
+    group_damage group_far group_shortest)
 at_once=2
 
 if ! command -v "$compiler" >/dev/null; then
@@ -58,6 +59,7 @@ group_of() {
         create:* | append:* | find:* | fetch:*) echo files ;;
         open:*) echo damage ;;
         replace:*) echo replace ;;
+        append_all:* | both:\ append_all:*) echo many ;;
         both:*) echo shortest ;;
         *) echo blocks ;;
     esac
@@ -78,7 +80,9 @@ try_slip() {
 
 slip() {
     local title=$1 old=$2 new=$3
-    local before=${right%%"$old"*} after=${right#*"$old"}
+    # What follows is cut off by its length: a pattern would be tried at every place.
+    local before=${right%%"$old"*}
+    local after=${right:${#before}+${#old}}
     slips=$((slips + 1))
     if [[ $before == "$right" || $after == *"$old"* ]]; then
         echo "NOT FOUND ONCE: $title" >"$build/slip$slips.result"

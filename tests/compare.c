@@ -28,6 +28,7 @@ static const group groups[] = {
     { "files", group_files, "create, append, open, find, fetch: lives of files, every length and room" },
     { "damage", group_damage, "every bit flipped, every cut, changed and forged fields" },
     { "replace", group_replace, "lives with replaces, made afresh again; every size, place, distance and room" },
+    { "many", group_many, "lists of records: each refusal at each place, sums that wrap, every room, 1,024 and one" },
     { "order", group_order, "several rules broken at once, in every combination" },
     { "far", group_far, "65,536 words, 1,024 entries, 16 MiB, lengths beyond 32 bits" },
     { "shortest", group_shortest, "rival blocks, blocks of random bytes, every short list of codes: none is shorter" }

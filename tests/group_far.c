@@ -89,6 +89,29 @@ static void most_words_in_a_file(void)
     forget_exam_file(&f);
 }
 
+/* Two records that share their words, the second with the most there may be, and with one more. */
+static void most_words_in_a_list(void)
+{
+    const size_t room = 2 * (12 + WORST(MOST_WORDS + 1));
+    coil_record list[2] = { { 1, 1, 9 }, { 2, 0, MOST_WORDS + 1 } };
+    exam_file f = new_exam_file(32 + room, 11, 12);
+    make_words(AIR_MAP, words, MOST_WORDS + 1);
+    this_case_is("65,536 and 65,537 words in a list");
+    outcome listed = compare_append_all(lend_with_spare(&f, room), list, 2, words, MOST_WORDS + 1, tables_of(12),
+                                        WORST(MOST_WORDS + 1));
+    must_answer(listed, 2);
+    must_hold(listed.second == 1, "the record before went in");
+    list[1].count = MOST_WORDS;
+    listed = compare_append_all(lend_with_spare(&f, room), list, 2, words, MOST_WORDS, tables_of(12),
+                                WORST(MOST_WORDS));
+    must_answer(listed, 0);
+    take_over_list(&f, listed);
+    outcome fetched = compare_fetch(lend_with_spare(&f, 0), 2, tables_of(12), MOST_WORDS);
+    must_answer(fetched, 0);
+    must_hold(memcmp(fetched.words, words, sizeof words - 8) == 0, "fetching gives the words of the list");
+    forget_exam_file(&f);
+}
+
 /* Well formed but for the count: 65,537 zeros. Also with 65,535 and 65,536 of them. */
 static void one_word_too_many(void)
 {
@@ -212,6 +235,23 @@ static void append_up_to_the_limit(size_t count)
                                    WORST(count)), beyond ? 3 : 0);
         must_answer(compare_append(lend_with_spare(&f, 11 + WORST(count)), 6, words, count, tables_of(3),
                                    WORST(count)), 3);
+        forget_exam_file(&f);
+    }
+}
+
+/* The second record of a list may reach the limit in the worst case, and not pass it. The first has no words and takes
+ * 20 bytes; the third has none either, and finds room once the second has gone in. */
+static void list_up_to_the_limit(size_t count)
+{
+    const coil_record list[3] = { { 6, 1, 0 }, { 7, 1, count }, { 8, 1, 0 } };
+    make_words(ZEROS, words, 1 + count);
+    for (size_t beyond = 0; beyond <= 1; beyond++) {
+        exam_file f = file_of_length(LIMIT - 20 - 12 - WORST(count) + beyond);
+        this_case_is("list with %zu words, %zu beyond the limit", count, beyond);
+        outcome listed = compare_append_all(lend_with_spare(&f, 100 + WORST(count)), list, 3, words, 1 + count,
+                                            tables_of(3), WORST(count));
+        must_answer(listed, beyond ? 3 : 0);
+        must_hold(listed.second == (beyond ? 1 : 3), "as many went in as stay within the limit");
         forget_exam_file(&f);
     }
 }
@@ -372,25 +412,61 @@ static void far_replaces(uint8_t *memory, uint64_t *far_words, uint64_t *more_wo
     forget_exam_file(&f);
 }
 
-/* The memory is only promised, not used: all but a few pages are never touched. */
+/* A list for an empty file, once in the library and once in the reference: the number, and how many go in. */
+static void far_list(const char *what, uint32_t expected, size_t in, const void *records, size_t records_len,
+                     const uint64_t *list_words, size_t words_len)
+{
+    uint8_t bench[17], file[2][200] = { { 0 }, { 0 } };
+    uint64_t table[2] = { 0, 0 };
+    size_t appended[2], length[2];
+    exam_file f = new_exam_file(32, 6, 0);
+    this_case_is("%s", what);
+    memcpy(file[0], f.bytes, 32);
+    memcpy(file[1], f.bytes, 32);
+    uint32_t library = coil_append_all(file[0], 200, 32, 6, records, records_len, list_words, words_len, table, 1,
+                                       table + 1, 1, bench, sizeof bench, &appended[0], &length[0]);
+    uint32_t reference = ref_append_all(file[1], 200, 32, 6, records, records_len, list_words, words_len, table, 1,
+                                        table + 1, 1, bench, sizeof bench, &appended[1], &length[1]);
+    must_hold(appended[0] == in && appended[1] == in, "how many go in");
+    must_hold(length[0] == length[1] && memcmp(file[0], file[1], 200) == 0, "one file on both sides");
+    judge_far(what, library, reference, expected);
+    forget_exam_file(&f);
+}
+
+/* The last word of many is another than all before it. */
+static void far_lists(uint64_t *far_words)
+{
+    const size_t far = FAR;
+    const coil_record last_word = { 5, far, 1 }, beyond = { 5, far + 1, 1 }, all = { 5, 0, far + 1 };
+    far_words[far] = UINT64_C(0x123456789ABCDEF);
+    far_list("list with the last of many words", 0, 1, &last_word, 1, far_words, far + 1);
+    far_list("list with a word behind many", 15, 0, &beyond, 1, far_words, far + 1);
+    far_list("list with a word behind one", 15, 0, &last_word, 1, far_words, 1);
+    far_list("list with one of many words more", 15, 0, &all, 1, far_words, far);
+    far_list("list with all of many words", 2, 0, &all, 1, far_words, far + 1);
+    far_words[far] = 0;
+}
+
+#define FAR_BYTES (8 * (FAR + 8))
+
+/* The memory is only promised, not used: all but a few pages are never touched. It serves as three lists of words; and
+ * before these are written to, as one of records, all for slot 0: the first goes in, and the second is refused. */
 static void lengths_beyond_32_bits(void)
 {
-    size_t bytes = 8 * (FAR + 8);
-    void *memory[3];
-    for (unsigned i = 0; i < 3; i++) {
-        memory[i] = mmap(NULL, bytes, PROT_READ | PROT_WRITE,
-                         MAP_PRIVATE | MAP_ANONYMOUS | MAP_NORESERVE, -1, 0);
-        if (memory[i] == MAP_FAILED) {
-            printf("  NOT RUN: lengths beyond 32 bits, as 96 GiB of addresses cannot be had here\n");
-            return;
-        }
+    uint8_t *memory = mmap(NULL, 3 * FAR_BYTES, PROT_READ | PROT_WRITE,
+                           MAP_PRIVATE | MAP_ANONYMOUS | MAP_NORESERVE, -1, 0);
+    if (memory == MAP_FAILED) {
+        printf("  NOT RUN: lengths beyond 32 bits, as 96 GiB of addresses cannot be had here\n");
+        return;
     }
-    far_blocks(memory[0], memory[1], memory[2]);
-    far_files(memory[0]);
-    far_replaces(memory[0], memory[1], memory[2]);
-    for (unsigned i = 0; i < 3; i++) {
-        munmap(memory[i], bytes);
-    }
+    uint64_t *far_words = (uint64_t *)(void *)(memory + FAR_BYTES);
+    uint64_t *more_words = (uint64_t *)(void *)(memory + 2 * FAR_BYTES);
+    far_list("list of many records", 11, 1, memory, FAR, words, 1);
+    far_blocks(memory, far_words, more_words);
+    far_files(memory);
+    far_replaces(memory, far_words, more_words);
+    far_lists(far_words);
+    munmap(memory, 3 * FAR_BYTES);
 }
 
 void group_far(unsigned rounds)
@@ -399,6 +475,7 @@ void group_far(unsigned rounds)
     most_entries();
     one_word_too_many();
     most_words_in_a_file();
+    most_words_in_a_list();
     most_words(rounds);
     make_words(NOISE, words, MOST_WORDS);
     file_at_the_limit();
@@ -406,5 +483,7 @@ void group_far(unsigned rounds)
     append_up_to_the_limit(301);
     replace_up_to_the_limit(301);
     move_much();
+    list_up_to_the_limit(3);
+    list_up_to_the_limit(301);
     lengths_beyond_32_bits();
 }

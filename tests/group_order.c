@@ -166,6 +166,66 @@ static void order_of_appends(table_sizes wrong)
     forget_exam_file(&f);
 }
 
+/* Lends a list with the rules of the mask broken at one place: 4, 7, 8, 9, 15, 12, 11, 1, 2, and 3 in the buffer and in
+ * the bench. Whether the file is full there (rule 12) is the caller's part. The records before that place have no words
+ * and take 20 bytes of the file each. Where a rule is broken one more stands behind, for a call that goes on. */
+static outcome broken_list(exam_file *f, size_t place, unsigned broken)
+{
+    coil_record records[4];
+    uint32_t last = (uint32_t)get_field(entry_of(f, f->entries - 1) + AT_SLOT, 4);
+    for (uint32_t i = 0; i < 4; i++) {
+        coil_record without_words = { last + 1 + i, 0, 0 };
+        records[i] = without_words;
+    }
+    bool outside = broken >> 4 & 1;
+    size_t count = broken & 256 ? TOO_MANY : 2;
+    size_t spare = 20 * place + 12 + WORST(count) - (broken & 512 ? 1 : 0);
+    table_sizes tables = broken & 128 ? wrong_tables[broken % WRONG_TABLES] : tables_of(2);
+    records[place].slot -= broken & 64 ? 1 : 0;
+    records[place].first = outside;
+    records[place].count = count;
+    return compare_append_all(broken_file(f, broken & 15, spare), records, place + (broken ? 2 : 1), many_words,
+                              outside ? 2 : count, tables, WORST(count) - (broken & 1024 ? 1 : 0));
+}
+
+/* Open's rules and the tables are the same for every record, so that these are broken at the first place only. Too many
+ * words take long to compare where they are lent (they are not where rule 15 is broken too), so open's rules are not
+ * broken with them. */
+static void order_of_list(exam_file *f, size_t place, bool full)
+{
+    static const uint32_t list[11] = { 4, 7, 8, 9, 15, 12, 11, 1, 2, 3, 3 };
+    for (unsigned broken = 0; broken < 2048; broken++) {
+        bool is_full = broken >> 5 & 1, of_open = (broken & 15) != 0, of_tables = broken >> 7 & 1;
+        bool lends_too_many = (broken & 256) != 0 && (broken & 16) == 0;
+        if (is_full != full || (place > 0 && (of_open || of_tables)) || (lends_too_many && of_open)) {
+            continue;
+        }
+        this_case_is("order of append_all, broken %X, record %zu", broken, place);
+        outcome result = broken_list(f, place, broken);
+        must_answer(result, first_broken(list, 11, broken));
+        must_hold(result.second == (broken ? place : place + 1), "what stood before the refusal went in");
+        mend_file(f);
+    }
+}
+
+/* A full file comes last: with 1,022 entries it is full for the third record, with 1,024 for the first. */
+static void order_of_lists(void)
+{
+    static const uint8_t empty_block[8] = { 0, 0, 0, 0, 8, 0, 0, 0 };
+    exam_file f = new_exam_file(32 + 1024 * 20, 5, 2);
+    add_block(&f, 4, empty_block, 8);
+    for (size_t place = 0; place < 3; place++) {
+        order_of_list(&f, place, false);
+    }
+    for (uint32_t slot = 5; f.entries < 1024; slot++) {
+        add_block(&f, slot, empty_block, 8);
+        if (f.entries > 1021) {
+            order_of_list(&f, 1024 - f.entries, true);
+        }
+    }
+    forget_exam_file(&f);
+}
+
 /* Rule 3 is broken in the buffer and in the bench. The block that goes has 8 bytes, fewer than the new one has at
  * worst: so a buffer with one byte too few still holds the whole file. Too many words take long to compare, so with
  * them at most one of open's rules is broken. */
@@ -204,6 +264,7 @@ void group_order(unsigned rounds)
     for (unsigned i = 0; i < WRONG_TABLES; i++) {
         order_of_reading(wrong_tables[i]);
     }
+    order_of_lists();
     for (unsigned i = 0; i < WRONG_TABLES && i < rounds; i++) {
         order_of_appends(wrong_tables[i]);
         order_of_replace(wrong_tables[i]);

@@ -7,6 +7,7 @@ void group_before(unsigned rounds);
 void group_files(unsigned rounds);
 void group_damage(unsigned rounds);
 void group_replace(unsigned rounds);
+void group_many(unsigned rounds);
 void group_order(unsigned rounds);
 void group_far(unsigned rounds);
 void group_shortest(unsigned rounds);

@@ -22,6 +22,9 @@ static uint32_t (*const fetch)(const uint8_t *, size_t, size_t, uint64_t, uint32
 static uint32_t (*const append)(uint8_t *, size_t, size_t, uint64_t, uint32_t, const uint64_t *, size_t,
                                 uint64_t *, size_t, uint64_t *, size_t,
                                 uint8_t *, size_t, size_t *) = coil_append;
+static uint32_t (*const append_all)(uint8_t *, size_t, size_t, uint64_t, const coil_record *, size_t,
+                                    const uint64_t *, size_t, uint64_t *, size_t, uint64_t *, size_t,
+                                    uint8_t *, size_t, size_t *, size_t *) = coil_append_all;
 static uint32_t (*const replace)(uint8_t *, size_t, size_t, uint64_t, uint32_t, const uint64_t *, size_t,
                                  uint64_t *, size_t, uint64_t *, size_t,
                                  uint8_t *, size_t, size_t *) = coil_replace;
@@ -50,6 +53,7 @@ static void numbers_and_limits(void)
     for (uint32_t number = 0; number < 13; number++) {
         is("number", in_order[number], number);
     }
+    is("number of a bad record", COIL_BAD_RECORD, 15);
     is("most words", COIL_MOST_WORDS, 65536);
     is("most bytes", COIL_MOST_FILE_BYTES, 16777216);
     is("most entries", COIL_MOST_ENTRIES, 1024);
@@ -69,7 +73,18 @@ static void numbers_and_limits(void)
     is("replace room of sums", 2 * COIL_REPLACE_ROOM(50 + 3, 10 - 1, 1 + 0), 122);
 }
 
-static uint8_t file[COIL_APPEND_ROOM(COIL_EMPTY_FILE, 2)];
+/* The library reads records by these places. */
+static void layout_of_a_record(void)
+{
+    is("size of a record", sizeof(coil_record), 24);
+    is("its slot", offsetof(coil_record, slot), 0);
+    is("bytes of a slot", sizeof(((coil_record *)0)->slot), 4);
+    is("its first word", offsetof(coil_record, first), 8);
+    is("its count", offsetof(coil_record, count), 16);
+    is("bytes of a count", sizeof(((coil_record *)0)->count), 8);
+}
+
+static uint8_t file[COIL_FILE_ROOM(3, 2)];
 static uint8_t bench[COIL_WORST(2)];
 static uint64_t fcm[COIL_TABLE_WORDS(3)];
 static uint64_t dfcm[COIL_TABLE_WORDS(3)];
@@ -103,10 +118,38 @@ static void every_call_once(void)
     is("one word", 10 * back[0] + count, 11);
 }
 
+/* To the file that every_call_once left: the second record is refused, mended, and gone on with. */
+static void a_list(void)
+{
+    const uint64_t words[2] = { 1, 3 };
+    struct coil_record list[2] = { { 6, 1, 1 }, { 7, 0, 3 } };
+    uint64_t back[2] = { 0, 0 };
+    size_t length = 54, appended = 9, new_length = 9, count = 0;
+
+    is("append_all without a record", append_all(file, sizeof file, length, 7, list, 0, words, 2, fcm, 8, dfcm, 8,
+                                                 bench, sizeof bench, &appended, &new_length), COIL_DONE);
+    is("none in, and the length", 1000 * appended + new_length, 54);
+    is("append_all", append_all(file, sizeof file, length, 7, list, 2, words, 2, fcm, 8, dfcm, 8,
+                                bench, sizeof bench, &appended, &new_length), COIL_BAD_RECORD);
+    is("one in, of 10 bytes", 1000 * appended + new_length, 1076);
+    length = new_length;
+    list[appended].count = 2;
+    is("append_all again", append_all(file, sizeof file, length, 7, list + appended, 2 - appended, words, 2, fcm, 8,
+                                      dfcm, 8, bench, sizeof bench, &appended, &new_length), COIL_DONE);
+    is("one in, of 11 bytes", 1000 * appended + new_length, 1099);
+    is("fetch from a list", fetch(file, sizeof file, new_length, 7, 6, fcm, 8, dfcm, 8, back, 2, &count), COIL_DONE);
+    is("one word", 10 * back[0] + count, 31);
+    is("fetch the last of a list", fetch(file, sizeof file, new_length, 7, 7, fcm, 8, dfcm, 8, back, 2, &count),
+       COIL_DONE);
+    is("two words", 10 * back[0] + back[1] + count, 15);
+}
+
 int main(void)
 {
     numbers_and_limits();
+    layout_of_a_record();
     every_call_once();
+    a_list();
     printf("%u passed, %u failed\n", passed, failed);
     return failed != 0;
 }

@@ -104,13 +104,18 @@ uint8_t *entry_of(const exam_file *f, size_t index)
     return f->bytes + f->length - 32 - 12 * (f->entries - index);
 }
 
-void add_block(exam_file *f, uint32_t slot, const uint8_t *block, size_t block_len)
+static void must_have_room(const exam_file *f, size_t length)
 {
-    size_t directory = f->length - 32 - 12 * f->entries;
-    if (f->length + block_len + 12 > f->capacity) {
+    if (length > f->capacity) {
         printf("the tests made a file too small\n");
         exit(2);
     }
+}
+
+void add_block(exam_file *f, uint32_t slot, const uint8_t *block, size_t block_len)
+{
+    size_t directory = f->length - 32 - 12 * f->entries;
+    must_have_room(f, f->length + block_len + 12);
     memmove(f->bytes + directory + block_len, f->bytes + directory, 12 * f->entries);
     memcpy(f->bytes + directory, block, block_len);
     f->entries++;
@@ -122,23 +127,32 @@ void add_block(exam_file *f, uint32_t slot, const uint8_t *block, size_t block_l
     write_trailer(f);
 }
 
-void take_over(exam_file *f, outcome appended)
+/* The length that is answered is 0 where a call left the file as it was. */
+static void take_over_with(exam_file *f, outcome left, size_t more_entries)
 {
-    if (appended.answer != 0) {
+    if (left.first == 0) {
         return;
     }
-    memcpy(f->bytes, appended.bytes, appended.first);
-    f->length = appended.first;
-    f->entries++;
+    must_have_room(f, left.first);
+    memcpy(f->bytes, left.bytes, left.first);
+    f->length = left.first;
+    f->entries += more_entries;
+}
+
+void take_over(exam_file *f, outcome appended)
+{
+    take_over_with(f, appended, 1);
+}
+
+/* A refused list leaves what went in before. */
+void take_over_list(exam_file *f, outcome appended)
+{
+    take_over_with(f, appended, appended.second);
 }
 
 void take_over_replaced(exam_file *f, outcome replaced)
 {
-    if (replaced.answer != 0) {
-        return;
-    }
-    memcpy(f->bytes, replaced.bytes, replaced.first);
-    f->length = replaced.first;
+    take_over_with(f, replaced, 0);
 }
 
 lent_file lend_with_spare(const exam_file *f, size_t spare)

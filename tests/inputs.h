@@ -47,8 +47,9 @@ exam_file new_exam_file(size_t capacity, uint64_t exam, uint32_t t);
 void forget_exam_file(exam_file *f);
 /* Adds an entry, whatever the slot and the bytes of the block are. */
 void add_block(exam_file *f, uint32_t slot, const uint8_t *block, size_t block_len);
-/* Takes over what an append or a replace left. */
+/* Takes over what an append, a list of appends or a replace left. */
 void take_over(exam_file *f, outcome appended);
+void take_over_list(exam_file *f, outcome appended);
 void take_over_replaced(exam_file *f, outcome replaced);
 
 uint8_t *trailer_of(const exam_file *f);

@@ -1,7 +1,8 @@
 /* The rules of the store, one after the other, in plain C99. See reference.h.
  *
  * Every "return" with a number below is a line of the rules' table of numbers. The checks stand in
- * the order of the rules. Nothing lent is written before the last check has passed.
+ * the order of the rules. Nothing lent is written before the last check has passed; of a list of records, before the
+ * last check of each record.
  */
 #include "reference.h"
 
@@ -570,6 +571,44 @@ uint32_t ref_append(uint8_t *file, size_t file_len, size_t length, uint64_t exam
     }
     size_t block_length = pack_now(words, words_len, fcm, dfcm, fcm_len, bench, more_zero_bits);
     *new_length = put_block_in(file, &f, exam, slot, bench, block_length);
+    return 0;
+}
+
+/* First word plus count above the length of the word buffer. The two are not added up: the sum could wrap. */
+static int beyond_the_words(const ref_record *record, size_t words_len)
+{
+    return record->first > words_len || record->count > words_len - record->first;
+}
+
+/* One append after another, up to the first refusal. What went in before it stays, and is answered. */
+uint32_t ref_append_all(uint8_t *file, size_t file_len, size_t length, uint64_t exam,
+                        const ref_record *records, size_t records_len,
+                        const uint64_t *words, size_t words_len,
+                        uint64_t *fcm, size_t fcm_len, uint64_t *dfcm, size_t dfcm_len,
+                        uint8_t *bench, size_t bench_len, size_t *appended, size_t *new_length)
+{
+    opened_file f;
+    size_t reached = length;
+    *new_length = 0;
+    *appended = 0;
+    uint32_t refusal = open_file(file, file_len, length, exam, &f);
+    if (refusal) {
+        return refusal;
+    }
+    for (size_t i = 0; i < records_len; i++) {
+        if (beyond_the_words(&records[i], words_len)) {
+            return 15;
+        }
+        refusal = ref_append(file, file_len, reached, exam, records[i].slot,
+                             words + records[i].first, records[i].count,
+                             fcm, fcm_len, dfcm, dfcm_len, bench, bench_len, &reached);
+        if (refusal) {
+            return refusal;
+        }
+        *appended = i + 1;
+        *new_length = reached;
+    }
+    *new_length = reached;
     return 0;
 }
 

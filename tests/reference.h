@@ -49,6 +49,19 @@ uint32_t ref_append(uint8_t *file, size_t file_len, size_t length, uint64_t exam
                     uint64_t *fcm, size_t fcm_len, uint64_t *dfcm, size_t dfcm_len,
                     uint8_t *bench, size_t bench_len, size_t *new_length);
 
+/* A map of a list: its slot, and where its words are in the word buffer. Laid out as coil_record. */
+typedef struct {
+    uint32_t slot;
+    size_t first;
+    size_t count;
+} ref_record;
+
+uint32_t ref_append_all(uint8_t *file, size_t file_len, size_t length, uint64_t exam,
+                        const ref_record *records, size_t records_len,
+                        const uint64_t *words, size_t words_len,
+                        uint64_t *fcm, size_t fcm_len, uint64_t *dfcm, size_t dfcm_len,
+                        uint8_t *bench, size_t bench_len, size_t *appended, size_t *new_length);
+
 uint32_t ref_replace(uint8_t *file, size_t file_len, size_t length, uint64_t exam, uint32_t slot,
                      const uint64_t *words, size_t words_len,
                      uint64_t *fcm, size_t fcm_len, uint64_t *dfcm, size_t dfcm_len,

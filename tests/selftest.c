@@ -247,6 +247,35 @@ static void worked_moves(void)
                 "63 6F 69 6C 01 00 00 00 07 00 00 00 00 00 00 00 38 00 00 00 02 00 00 00 4D 00 00 00 00 00 00 00");
 }
 
+/* Appends records to the empty file of exam 7 with t = 10, from the words 1, 2, 3, 0. */
+static void list_gives(const ref_record *records, size_t count, uint32_t answer, size_t in, const char *hex)
+{
+    const uint64_t words[] = { 1, 2, 3, 0 };
+    uint8_t expected[128];
+    size_t expected_length = from_hex(hex, expected), length = 0, appended = 9;
+    ref_create(file, sizeof file, 7, 10, &length);
+    uint32_t answered = ref_append_all(file, sizeof file, length, 7, records, count, words, 4, fcm, 1024, dfcm, 1024,
+                                       bench, sizeof bench, &appended, &length);
+    holds(answered == answer && appended == in, "number and count of a list");
+    holds(length == expected_length && memcmp(file, expected, length) == 0, hex);
+}
+
+/* The first map has 11 bytes, the second 9, the third 10. The fourth record is one word too long. */
+static void worked_lists(void)
+{
+    const ref_record records[] = { { 3, 0, 3 }, { 4, 3, 1 }, { 5, 0, 1 }, { 6, 1, 4 } };
+    const ref_record wraps = { 3, 2, SIZE_MAX };
+    const char *of_three = "03 00 00 00 0B 00 00 00 6F F7 01 01 00 00 00 09 00 00 00 77 01 00 00 00 0A 00 00 00 67 01 "
+        "03 00 00 00 00 00 00 00 0B 00 00 00 04 00 00 00 0B 00 00 00 09 00 00 00 05 00 00 00 14 00 00 00 0A 00 00 00 "
+        "63 6F 69 6C 01 00 0A 00 07 00 00 00 00 00 00 00 44 00 00 00 03 00 00 00 62 00 00 00 00 00 00 00";
+    list_gives(records, 3, 0, 3, of_three);
+    list_gives(records, 4, 15, 3, of_three);
+    list_gives(records, 0, 0, 0, "63 6F 69 6C 01 00 0A 00 07 00 00 00 00 00 00 00 "
+               "20 00 00 00 00 00 00 00 20 00 00 00 00 00 00 00");
+    list_gives(records + 3, 1, 15, 0, "");
+    list_gives(&wraps, 1, 15, 0, "");
+}
+
 /* ---- Round trips and room ---- */
 
 /* The least room that the promise allows: over every way to cut the words into runs of one fixed
@@ -316,6 +345,7 @@ int main(void)
     worked_files();
     worked_replaces();
     worked_moves();
+    worked_lists();
     round_trips();
     printf("%u passed, %u failed\n", passed, failed);
     return failed != 0;

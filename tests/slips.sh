@@ -4,6 +4,12 @@
 # begins with "both:", the reference that the library is compared with makes the slip too.
 # shellcheck shell=bash disable=SC2016
 
+# The slip made by the library alone, and by both sides: the tests hold a list against appends one after another, too.
+slip_of_one_and_both() {
+    slip "$1" "$2" "$3"
+    slip "both: $1" "$2" "$3"
+}
+
 # ---- Packers that would be easy to write and useless
 slip "packer refuses everything" 'if (words_len > MOST_WORDS) {
         return 2;
@@ -480,6 +486,184 @@ slip "replace: bench not filled" 'size_t new_size = pack_now(words, words_len, f
     'uint8_t *own = room_for(worst_length(words_len));
     size_t new_size = pack_now(words, words_len, fcm, dfcm, fcm_len, own, more_zero_bits);
     *new_length = put_block_in_place(file, length, &found, index, own, new_size);'
+
+# ---- Appending a list
+slip "append_all: goes on after a refusal" 'bench, bench_len, &reached);
+        if (refusal) {
+            return refusal;
+        }' 'bench, bench_len, new_length);
+        if (refusal) { *new_length = reached; continue; }
+        reached = *new_length;'
+slip "append_all: goes on after a record beyond the words" 'return 15;' 'continue;'
+slip "append_all: what went in is taken back" 'uint32_t refusal = open_file(file, file_len, length, exam, &f);
+    if (refusal) {
+        return refusal;
+    }
+    for (' 'uint32_t refusal = open_file(file, file_len, length, exam, &f);
+    if (refusal) {
+        return refusal;
+    }
+    static int trying;
+    if (!trying) {
+        uint8_t *try_file = memcpy(room_for(file_len), file, file_len);
+        trying = 1;
+        refusal = ref_append_all(try_file, file_len, length, exam, records, records_len, words, words_len,
+            room_for(8 * fcm_len), fcm_len, room_for(8 * dfcm_len), dfcm_len, room_for(bench_len), bench_len,
+            appended, new_length);
+        trying = 0;
+        *appended = 0;
+        *new_length = 0;
+        if (refusal) { return refusal; }
+    }
+    for ('
+slip "append_all: a later refusal is answered as done" 'bench, bench_len, &reached);
+        if (refusal) {' 'bench, bench_len, &reached);
+        if (refusal && i > 0) { return 0; }
+        if (refusal) {'
+slip "append_all: counts the refused record" 'bench, bench_len, &reached);
+        if (refusal) {' 'bench, bench_len, &reached);
+        if (refusal) { *appended += i > 0;'
+slip "append_all: counts the record beyond the words" 'return 15;' '*appended += i > 0; return 15;'
+slip "append_all: counts the first record, refused" 'bench, bench_len, &reached);
+        if (refusal) {' 'bench, bench_len, &reached);
+        if (refusal) { *appended += i == 0;'
+slip "append_all: counts one too few" '*appended = i + 1;' '*appended = i;'
+slip "append_all: counts all entries of the file" '*appended = i + 1;' '*appended = f.entries + i + 1;'
+slip "append_all: no count kept at a refusal" 'bench, bench_len, &reached);
+        if (refusal) {' 'bench, bench_len, &reached);
+        if (refusal) { *appended = 0;'
+slip_of_one_and_both "append_all: length 0 after a later refusal" '*new_length = reached;
+    }' '}'
+slip "append_all: length before the list after a later refusal" 'bench, bench_len, &reached);
+        if (refusal) {' 'bench, bench_len, &reached);
+        if (refusal) { *new_length = i > 0 ? length : 0;'
+slip "append_all: length kept where the first record is refused" 'for (size_t i = 0; i < records_len; i++) {
+        if (beyond_the_words' '*new_length = length;
+    for (size_t i = 0; i < records_len; i++) {
+        if (beyond_the_words'
+slip "append_all: length kept where the file does not open" 'size_t reached = length;
+    *new_length = 0;' 'size_t reached = length;
+    *new_length = length;'
+slip "append_all: count left where none went in" '*appended = 0;
+    uint32_t refusal = open_file' 'uint32_t refusal = open_file'
+slip_of_one_and_both "append_all: last record skipped" 'for (size_t i = 0; i < records_len; i++)' \
+    'for (size_t i = 0; i + 1 < records_len; i++)'
+slip "append_all: first record skipped" 'for (size_t i = 0; i < records_len; i++)' \
+    'for (size_t i = 1; i < records_len; i++)'
+slip "append_all: one record too many" 'for (size_t i = 0; i < records_len; i++)' \
+    'for (size_t i = 0; i <= records_len; i++)'
+slip "append_all: number of records cut to 32 bits" 'for (size_t i = 0; i < records_len; i++)' \
+    'for (size_t i = 0; i < (uint32_t)records_len; i++)'
+slip_of_one_and_both "append_all: words taken from the start of the buffer" \
+    'words + records[i].first, records[i].count' 'words, records[i].count'
+slip "append_all: words taken from behind the record before" 'words + records[i].first, records[i].count' \
+    'words + (i > 0 ? records[i - 1].first + records[i - 1].count <= words_len - records[i].count
+        ? records[i - 1].first + records[i - 1].count : records[i].first : records[i].first), records[i].count'
+slip "append_all: all the rest of the words" 'words + records[i].first, records[i].count' \
+    'words + records[i].first, words_len - records[i].first'
+slip "append_all: slots counted up from the first" 'exam, records[i].slot,' 'exam, records[0].slot + (uint32_t)i,'
+slip "append_all: 15 by the count alone" \
+    'return record->first > words_len || record->count > words_len - record->first;' 'return record->count > words_len;'
+slip "append_all: 15 by the first word alone" \
+    'return record->first > words_len || record->count > words_len - record->first;' 'return record->first > words_len;'
+slip "append_all: the sum wraps" 'return record->first > words_len || record->count > words_len - record->first;' \
+    'return record->first + record->count > words_len;'
+slip "append_all: the difference wraps" 'return record->first > words_len || record->count' 'return record->count'
+slip "append_all: the end of the words refused" 'record->count > words_len - record->first' \
+    'record->count >= words_len - record->first'
+slip "append_all: one word beyond the words accepted" 'record->count > words_len - record->first' \
+    'record->count > words_len - record->first + 1'
+slip "append_all: no words at the end refused" 'return record->first > words_len ||' \
+    'return record->first >= words_len ||'
+slip "append_all: no words beyond the end accepted" 'return record->first > words_len ||' \
+    'return record->count == 0 ? 0 : record->first > words_len ||'
+slip "append_all: first word cut to 32 bits" \
+    'return record->first > words_len || record->count > words_len - record->first;' \
+    'return (uint32_t)record->first > words_len || record->count > words_len - (uint32_t)record->first;'
+slip "append_all: count cut to 32 bits" 'record->count > words_len - record->first' \
+    '(uint32_t)record->count > words_len - record->first'
+slip_of_one_and_both "append_all: 12 before 15" 'if (beyond_the_words(&records[i], words_len)) {' \
+    'if (open_file(file, file_len, reached, exam, &f) == 0 && f.entries >= MOST_ENTRIES) { return 12; }
+        if (beyond_the_words(&records[i], words_len)) {'
+slip "append_all: 11 before 15" 'if (beyond_the_words(&records[i], words_len)) {' \
+    'if (open_file(file, file_len, reached, exam, &f) == 0 && f.entries > 0 && f.entries < MOST_ENTRIES
+            && records[i].slot <= entry_slot(file, &f, f.entries - 1)) { return 11; }
+        if (beyond_the_words(&records[i], words_len)) {'
+slip "append_all: 2 before 15" 'if (beyond_the_words(&records[i], words_len)) {' \
+    'if (records[i].count > MOST_WORDS) { return 2; }
+        if (beyond_the_words(&records[i], words_len)) {'
+slip "append_all: 15 before open" 'opened_file f;
+    size_t reached = length;
+    *new_length = 0;
+    *appended = 0;' 'opened_file f;
+    size_t reached = length;
+    *new_length = 0;
+    *appended = 0;
+    if (records_len > 0 && beyond_the_words(&records[0], words_len)) { return 15; }'
+slip "append_all: 15 of any record before the first goes in" 'for (size_t i = 0; i < records_len; i++) {
+        if (beyond_the_words' 'for (size_t i = 0; i < records_len; i++) {
+        if (beyond_the_words(&records[i], words_len)) { return 15; }
+    }
+    for (size_t i = 0; i < records_len; i++) {
+        if (beyond_the_words'
+slip "append_all: 11 of any record before the first goes in" 'for (size_t i = 0; i < records_len; i++) {
+        if (beyond_the_words' 'for (size_t i = 1; i < records_len; i++) {
+        if (records[i].slot <= records[i - 1].slot) { return 11; }
+    }
+    for (size_t i = 0; i < records_len; i++) {
+        if (beyond_the_words'
+slip "append_all: 12 before the first goes in" 'for (size_t i = 0; i < records_len; i++) {
+        if (beyond_the_words' 'if (f.entries + records_len > MOST_ENTRIES) { return 12; }
+    for (size_t i = 0; i < records_len; i++) {
+        if (beyond_the_words'
+slip "append_all: room for all before the first goes in" 'for (size_t i = 0; i < records_len; i++) {
+        if (beyond_the_words' 'size_t asked = length;
+    for (size_t i = 0; i < records_len && !beyond_the_words(&records[i], words_len); i++) {
+        asked += ENTRY + worst_length(records[i].count);
+    }
+    if (asked > file_len) { return 3; }
+    for (size_t i = 0; i < records_len; i++) {
+        if (beyond_the_words'
+slip "append_all: tables before 15, and of a list without a record" 'for (size_t i = 0; i < records_len; i++) {
+        if (beyond_the_words' 'if (refuse_file_tables(&f, fcm_len, dfcm_len)) { return 1; }
+    for (size_t i = 0; i < records_len; i++) {
+        if (beyond_the_words'
+slip "append_all: a list without a record answers length 0" '*new_length = reached;
+    return 0;' 'return 0;'
+slip_of_one_and_both "append_all: a list without a record is not opened" 'opened_file f;
+    size_t reached = length;' 'opened_file f;
+    if (records_len == 0) { *appended = 0; *new_length = length; return 0; }
+    size_t reached = length;'
+slip "append_all: a list without a record is refused" 'opened_file f;
+    size_t reached = length;' 'opened_file f;
+    if (records_len == 0) { *appended = 0; *new_length = 0; return 15; }
+    size_t reached = length;'
+slip "append_all: a list without a record clears a table" '*new_length = reached;
+    return 0;' '*new_length = reached;
+    if (records_len == 0) { memset(fcm, 0, 8 * fcm_len); }
+    return 0;'
+slip "append_all: a refused record clears a table" 'bench, bench_len, &reached);
+        if (refusal) {' 'bench, bench_len, &reached);
+        if (refusal) { memset(dfcm, 0, 8 * dfcm_len);'
+slip "append_all: a record beyond the words clears a table" 'return 15;' 'memset(fcm, 0, 8 * fcm_len); return 15;'
+slip "append_all: a refused record is packed into the bench" 'bench, bench_len, &reached);
+        if (refusal) {' 'bench, bench_len, &reached);
+        if (refusal) { if (bench_len >= 4) { write_field(bench, 4, records[i].count); }'
+slip "append_all: a record beyond the words writes the bench" 'return 15;' \
+    'if (bench_len > 0) { bench[0]++; } return 15;'
+slip "append_all: a refused record changes the file" 'bench, bench_len, &reached);
+        if (refusal) {' 'bench, bench_len, &reached);
+        if (refusal) { if (*new_length > 0 && *new_length < file_len) { file[*new_length]++; }'
+slip "append_all: bench cleared beyond the last block" '*new_length = reached;
+    return 0;' '*new_length = reached;
+    for (size_t k = records_len > 0 && bench_len >= 8 ? read_field(bench + 4, 4) : bench_len; k < bench_len; k++)
+        { bench[k] = 0; }
+    return 0;'
+slip "append_all: tables cleared after the last record" '*new_length = reached;
+    return 0;' '*new_length = reached;
+    if (records_len > 0) { memset(fcm, 0, 8 * fcm_len); memset(dfcm, 0, 8 * dfcm_len); }
+    return 0;'
+slip "append_all: records changed" '*appended = i + 1;' '*appended = i + 1; ((ref_record *)records)[i].first = 0;'
 
 # ---- Slips of both sides: a packer whose blocks come back, and are longer than they need be
 slip "both: the residual that the rule leaves is taken" 'int dfcm_is_chosen = dfcm_chosen(' \

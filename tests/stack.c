@@ -13,8 +13,9 @@ enum { MOST = 1024, STACK = 65536, PAINT = 0xA5, COUNT = 3001, T = 10 };
 
 static uint8_t stack[STACK];
 static uint64_t words[COUNT], back[COUNT], fcm[COIL_TABLE_WORDS(T)], dfcm[COIL_TABLE_WORDS(T)];
-static uint8_t block[COIL_WORST(COUNT)], bench[COIL_WORST(COUNT)], file[COIL_FILE_ROOM(2, COUNT)];
-static size_t length, block_length, file_length, offset;
+static uint8_t block[COIL_WORST(COUNT)], bench[COIL_WORST(COUNT)], file[COIL_FILE_ROOM(3, COUNT)];
+static const coil_record records[2] = { { 2, 1, COUNT - 1 }, { 3, 0, COUNT / 3 } };
+static size_t length, block_length, file_length, offset, appended;
 static uint32_t answer;
 
 static void nothing(void)
@@ -31,6 +32,12 @@ static void append(void)
 {
     answer = coil_append(file, sizeof file, file_length, EXAM, 1, words, COUNT, fcm, COIL_TABLE_WORDS(T),
                          dfcm, COIL_TABLE_WORDS(T), bench, sizeof bench, &file_length);
+}
+
+static void append_all(void)
+{
+    answer = coil_append_all(file, sizeof file, file_length, EXAM, records, 2, words, COUNT, fcm, COIL_TABLE_WORDS(T),
+                             dfcm, COIL_TABLE_WORDS(T), bench, sizeof bench, &appended, &file_length);
 }
 
 static void replace_by_fewer(void)
@@ -104,7 +111,7 @@ int main(void)
     static const struct {
         const char *name;
         void (*call)(void);
-    } calls[] = { { "coil_create", create }, { "coil_append", append },
+    } calls[] = { { "coil_create", create }, { "coil_append", append }, { "coil_append_all", append_all },
                   { "coil_replace by fewer words", replace_by_fewer },
                   { "coil_replace by more words", replace_by_more }, { "coil_open", open_it },
                   { "coil_find", find }, { "coil_fetch", fetch }, { "coil_pack", pack },

@@ -42,15 +42,32 @@ static void make_expected_file(worker *w, uint32_t t)
     w->failed = answer != 0;
 }
 
-static void store_and_fetch(worker *w, uint32_t fetched_slot)
+static uint32_t append_each(worker *w, size_t *length)
+{
+    size_t entries = COIL_TABLE_WORDS(w->t);
+    uint32_t answer = 0;
+    for (uint32_t slot = 0; slot < SLOTS; slot++) {
+        answer += coil_append(w->file, sizeof w->file, *length, 1 + w->t, slot, w->words[slot], COUNT,
+                              w->fcm, entries, w->dfcm, entries, w->bench, sizeof w->bench, length);
+    }
+    return answer;
+}
+
+static uint32_t append_in_one_call(worker *w, size_t *length)
+{
+    static const coil_record records[SLOTS] = { { 0, 0, COUNT }, { 1, COUNT, COUNT }, { 2, 2 * COUNT, COUNT } };
+    size_t entries = COIL_TABLE_WORDS(w->t), appended;
+    return coil_append_all(w->file, sizeof w->file, *length, 1 + w->t, records, SLOTS, w->words[0], SLOTS * COUNT,
+                           w->fcm, entries, w->dfcm, entries, w->bench, sizeof w->bench, &appended, length);
+}
+
+static void store_and_fetch(worker *w, uint32_t round)
 {
     size_t entries = COIL_TABLE_WORDS(w->t), length = 0, count = 0;
     uint64_t exam = 1 + w->t;
+    uint32_t fetched_slot = round % SLOTS;
     uint32_t answer = coil_create(w->file, sizeof w->file, exam, w->t, &length);
-    for (uint32_t slot = 0; slot < SLOTS; slot++) {
-        answer += coil_append(w->file, sizeof w->file, length, exam, slot, w->words[slot], COUNT,
-                              w->fcm, entries, w->dfcm, entries, w->bench, sizeof w->bench, &length);
-    }
+    answer += round % 2 ? append_each(w, &length) : append_in_one_call(w, &length);
     answer += coil_fetch(w->file, sizeof w->file, length, exam, fetched_slot, w->fcm, entries,
                          w->dfcm, entries, w->back, COUNT, &count);
     if (answer == 0 && length == w->expected_length && memcmp(w->file, w->expected, length) == 0
@@ -64,7 +81,7 @@ static void store_and_fetch(worker *w, uint32_t fetched_slot)
 static void *work(void *given)
 {
     for (uint32_t round = 0; round < ROUNDS; round++) {
-        store_and_fetch(given, round % SLOTS);
+        store_and_fetch(given, round);
     }
     return NULL;
 }

@@ -1,6 +1,6 @@
 /* What the file calls touch. The blocks of a large file stand in pages that may be neither read nor written:
- * opening, finding and appending must get along without them, and replacing without those before the block that it
- * replaces. A call that touches one ends the program.
+ * opening, finding and appending, one map or a list, must get along without them, and replacing without those before
+ * the block that it replaces. A call that touches one ends the program.
  */
 #define _DEFAULT_SOURCE
 #include "coil.h"
@@ -83,6 +83,21 @@ static void append(size_t length)
     unlock(locked);
 }
 
+/* Two maps of 10 and 11 bytes go in, and the file is full for the third. */
+static void append_all(size_t length)
+{
+    const coil_record records[3] = { { 10220, 0, 1 }, { 10230, 1, 2 }, { 10240, 0, 3 } };
+    size_t appended, new_length;
+    lay_out(file, length, 1022);
+    size_t locked = lock_before(directory_of(length, 1022));
+    is("append a list", coil_append_all(file, ROOM, length, EXAM, records, 3, words, 3, fcm, 1, dfcm, 1,
+                                        bench, sizeof bench, &appended, &new_length), COIL_FILE_FULL);
+    is("how many went in", appended, 2);
+    is("new length after the list", new_length, length + 2 * ENTRY + 10 + 11);
+    is("open after the list", coil_open(file, ROOM, new_length, EXAM), COIL_DONE);
+    unlock(locked);
+}
+
 /* By one word, and then by three: what stands behind the block moves down, and then up again. */
 static void replace(size_t length, uint32_t slot)
 {
@@ -111,6 +126,7 @@ int main(void)
     file = memory;
     open_and_find(COIL_MOST_FILE_BYTES);
     append(COIL_MOST_FILE_BYTES - 65536);
+    append_all(COIL_MOST_FILE_BYTES - 65536);
     replace(COIL_MOST_FILE_BYTES, 5120);
     replace(COIL_MOST_FILE_BYTES, 10230);
     printf("%u passed, %u failed\n", passed, failed);

@@ -20,6 +20,7 @@ static const uint64_t zero[1] = { 0 };
 static const uint64_t one[7] = { 1, 1, 1, 1, 1, 1, 1 };
 static const uint64_t ramp[3] = { 1, 2, 3 };
 static const uint64_t full[2] = { UINT64_MAX, 0 };
+static const uint64_t ramp_and_zero[4] = { 1, 2, 3, 0 };
 
 /* The file of a group of cases. The buffer is lent with file_len bytes. */
 static uint8_t file[128];
@@ -59,6 +60,18 @@ static void print_given_words(const uint64_t *words, size_t count)
         printf(" %zu words", count);
     } else {
         print_words(words, count);
+    }
+}
+
+/* Too many records for a line are only counted. */
+static void print_records(const coil_record *records, size_t count)
+{
+    if (count == 0 || count > 8) {
+        printf(" %zu records,", count);
+        return;
+    }
+    for (size_t i = 0; i < count; i++) {
+        printf(" slot %u first %zu count %zu,", (unsigned)records[i].slot, records[i].first, records[i].count);
     }
 }
 
@@ -178,6 +191,42 @@ static void replace(size_t length, uint64_t exam, uint32_t slot, const uint64_t 
 static void replace_by_one(size_t length, uint64_t exam, uint32_t slot, size_t bench_len)
 {
     replace(length, exam, slot, one, 1, 2, 2, bench_len);
+}
+
+/* What a list is lent beside its records. */
+typedef struct {
+    size_t length;
+    uint64_t exam;
+    const uint64_t *words;
+    size_t words_len, fcm_len, dfcm_len, bench_len;
+} list_lent;
+
+static void append_all(uint8_t *to, size_t to_len, list_lent lent, const coil_record *records, size_t records_len)
+{
+    size_t appended = NOT_ANSWERED, new_length = NOT_ANSWERED;
+    printf("append_all to exam %llu in %zu bytes,", (unsigned long long)lent.exam, lent.length);
+    print_records(records, records_len);
+    printf(" words");
+    print_given_words(lent.words, lent.words_len);
+    printf(", tables of %zu and %zu, buffer %zu, bench %zu", lent.fcm_len, lent.dfcm_len, to_len, lent.bench_len);
+    uint32_t answer = coil_append_all(to, to_len, lent.length, lent.exam, records, records_len, lent.words,
+                                      lent.words_len, fcm, lent.fcm_len, dfcm, lent.dfcm_len, bench, lent.bench_len,
+                                      &appended, &new_length);
+    printf(": answers %u, appended %zu, length %zu\n", (unsigned)answer, appended, new_length);
+}
+
+/* A list of one record, and of two. */
+static void append_one(list_lent lent, uint32_t slot, size_t first, size_t count)
+{
+    const coil_record record = { slot, first, count };
+    append_all(file, file_len, lent, &record, 1);
+}
+
+static void append_two(list_lent lent, uint32_t slot, size_t first, size_t count,
+                       uint32_t next_slot, size_t next_first, size_t next_count)
+{
+    const coil_record records[2] = { { slot, first, count }, { next_slot, next_first, next_count } };
+    append_all(file, file_len, lent, records, 2);
 }
 
 /* The first bytes of the buffer: a file, and what lies beyond it. */
@@ -563,6 +612,159 @@ static void refusals_to_replace(void)
     replace_by_one(32, 7, 3, 17);
 }
 
+/* Three maps in one call. The second takes the word behind those of the first, the third shares one with the first.
+ * Beyond the last block the bench has a byte of the first, and then what it held before. */
+static void list_worked_by_hand(void)
+{
+    const list_lent lent = { 32, 7, ramp_and_zero, 4, 1024, 1024, 34 };
+    const coil_record records[3] = { { 3, 0, 3 }, { 4, 3, 1 }, { 5, 0, 1 } };
+    printf("A list worked by hand\n");
+    lend_buffer(128);
+    create(7, 10);
+    append_all(file, file_len, lent, records, 3);
+    print_buffer(99);
+    printf("bench:");
+    print_bytes(bench, 12);
+    printf("\n");
+    fetch(98, 7, 3, 1024, 1024, 8);
+    fetch(98, 7, 4, 1024, 1024, 8);
+    fetch(98, 7, 5, 1024, 1024, 8);
+}
+
+/* The second record reaches one word too far: the first stays, and the file opens. Mended, it goes in. */
+static void list_refused_and_gone_on_with(void)
+{
+    list_lent lent = { 32, 7, ramp_and_zero, 4, 1024, 1024, 34 };
+    printf("A list refused at its second record, and gone on with\n");
+    lend_buffer(128);
+    create(7, 10);
+    append_two(lent, 3, 0, 3, 4, 3, 2);
+    print_buffer(56);
+    open_file(55, 7);
+    fetch(55, 7, 3, 1024, 1024, 8);
+    lent.length = 55;
+    append_one(lent, 4, 3, 1);
+    print_buffer(77);
+    fetch(76, 7, 4, 1024, 1024, 8);
+}
+
+/* It asks for no tables, words or bench, and the file must open. */
+static void list_without_a_record(void)
+{
+    const coil_record nothing = { 4, 0, 1 };
+    list_lent none = { 53, 7, zero, 0, 1, 2, 0 };
+    printf("A list without a record\n");
+    make_one_map();
+    append_all(file, file_len, none, &nothing, 0);
+    print_buffer(54);
+    none.exam = 8;
+    append_all(file, file_len, none, &nothing, 0);
+    none.length = 62;
+    append_all(file, file_len, none, &nothing, 0);
+}
+
+/* What open refuses, each beside a record that is beyond the words. */
+static void lists_for_no_file(void)
+{
+    list_lent lent = { 31, 8, ramp_and_zero, 4, 1024, 1024, 17 };
+    printf("Lists for a file that does not open\n");
+    make_one_map();
+    append_one(lent, 4, 4, 1);
+    lent.length = 62;
+    append_one(lent, 4, 4, 1);
+    lent.length = 52;
+    append_one(lent, 4, 4, 1);
+    lent.length = 53;
+    append_one(lent, 4, 4, 1);
+    lent.exam = 7;
+    file[17] = 8;
+    printf("byte 17 is 8: ");
+    append_one(lent, 4, 4, 1);
+}
+
+/* One word too many, none from one too far on, sums that wrap; beside a slot that is there and tables that differ. No
+ * words from the end of the buffer on go in. */
+static void records_beyond_the_words(void)
+{
+    list_lent lent = { 53, 7, ramp_and_zero, 4, 1, 2, 0 };
+    printf("Records beyond the words\n");
+    make_one_map();
+    append_one(lent, 3, 0, 5);
+    append_one(lent, 3, 4, 1);
+    append_one(lent, 3, 5, 0);
+    append_one(lent, 3, SIZE_MAX, 1);
+    append_one(lent, 3, 2, SIZE_MAX);
+    append_one(lent, 3, SIZE_MAX, SIZE_MAX);
+    append_one(lent, 3, SIZE_MAX / 2 + 1, SIZE_MAX / 2 + 1);
+    lent.fcm_len = lent.dfcm_len = 1024;
+    lent.bench_len = 8;
+    file_len = 73;
+    append_one(lent, 4, 4, 0);
+}
+
+/* A slot that is there, a lower one, and one that the list has already, before tables; tables that differ and of
+ * another size, before too many words; too many words, before room. */
+static void refusals_to_append_all(void)
+{
+    list_lent lent = { 53, 7, ramp_and_zero, 4, 1, 2, 17 };
+    printf("Refusals to append a list\n");
+    lend_buffer(128);
+    create(7, 1);
+    append_zero(32, 7, 3, 17);
+    append_one(lent, 3, 0, 1);
+    append_one(lent, 2, 0, 1);
+    append_one(lent, 4, 0, 1);
+    lent.words = many_words;
+    lent.words_len = COIL_MOST_WORDS + 1;
+    lent.fcm_len = lent.dfcm_len = 4;
+    append_one(lent, 4, 0, COIL_MOST_WORDS + 1);
+    lent.fcm_len = lent.dfcm_len = 2;
+    append_one(lent, 4, 0, COIL_MOST_WORDS + 1);
+    append_two(lent, 4, 0, 1, 5, 0, COIL_MOST_WORDS + 1);
+    lent.length = 74;
+    append_two(lent, 5, 0, 1, 5, 0, COIL_MOST_WORDS + 1);
+    lent.length = 95;
+    append_two(lent, 6, 0, 0, 4, 0, 1);
+}
+
+/* Room that is one byte short for the second record, in the buffer or in the bench; then at exactly those limits. The
+ * first record takes the one word 0: 9 bytes, and 12 of its entry. */
+static void no_room_for_a_record(void)
+{
+    list_lent lent = { 32, 7, ramp_and_zero, 4, 1, 1, 34 };
+    printf("No room for the second record\n");
+    lend_buffer(98);
+    create(7, 0);
+    append_two(lent, 3, 3, 1, 4, 0, 3);
+    file_len = 99;
+    create(7, 0);
+    lent.bench_len = 33;
+    append_two(lent, 3, 3, 1, 4, 0, 3);
+    create(7, 0);
+    lent.bench_len = 34;
+    append_two(lent, 3, 3, 1, 4, 0, 3);
+}
+
+/* 1,025 records without words; then one more for the file that is full, and one that is beyond the words too. */
+static void full_file(void)
+{
+    static uint8_t large[COIL_FILE_ROOM(COIL_MOST_ENTRIES + 1, 0)];
+    static coil_record records[COIL_MOST_ENTRIES + 1];
+    list_lent lent = { 32, 7, zero, 1, 1, 1, 8 };
+    size_t length;
+    for (uint32_t slot = 0; slot <= COIL_MOST_ENTRIES; slot++) {
+        records[slot].slot = slot;
+    }
+    printf("A list of 1,025 records\n");
+    coil_create(large, sizeof large, 7, 0, &length);
+    append_all(large, sizeof large, lent, records, COIL_MOST_ENTRIES + 1);
+    lent.length = 20512;
+    append_all(large, sizeof large, lent, records, 1);
+    records[0].first = 2;
+    append_all(large, sizeof large, lent, records, 1);
+    append_all(large, sizeof large, lent, records, 0);
+}
+
 int main(void)
 {
     /* Where a call ends the program, the line up to that call is still printed. */
@@ -584,5 +786,13 @@ int main(void)
     replace_one_of_two_maps();
     replace_a_damaged_map();
     refusals_to_replace();
+    list_worked_by_hand();
+    list_refused_and_gone_on_with();
+    list_without_a_record();
+    lists_for_no_file();
+    records_beyond_the_words();
+    refusals_to_append_all();
+    no_room_for_a_record();
+    full_file();
     return 0;
 }

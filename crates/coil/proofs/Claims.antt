@@ -1,13 +1,13 @@
 -- What is promised of the calls from C, each promise with one line of plain words. They are the store's own promises, read through the lent numbers.
 use mathlib.Core.Path.{_≡_, refl, sym, ap, _∙_}
-use mathlib.Core.Logic.{_↔_}
-use mathlib.Core.List.{List, [], _∷_, _++_, List·Mem, mem-cast}
+use mathlib.Core.Logic.{_↔_, _⊎_}
+use mathlib.Core.List.{List, [], _∷_, _++_, map, List·Mem, mem-cast}
 use Prim.Native.Nat.{ℕ, _+_, _^_, _≤_, _<_}
 use native.Mathlib.Omega.{arith}
 use lib.ListN.{length, getD, take, drop}
 use Rattle.words.specs.Words.{Words}
 use Rattle.words.specs.Bytes.{Bytes}
-use Rattle.answers.specs.Answers.{over}
+use Rattle.answers.specs.Answers.{afterwards, over}
 use Rattle.answers.proofs.Checks.{afterwards-new}
 use Rattle.block_rules.specs.Codes.{dfcmChosenByBytes}
 use Rattle.block_rules.specs.Block.{blockBy}
@@ -20,16 +20,19 @@ use Rattle.block_rules.proofs.Claims.{packed-before-checks}
 use Rattle.blocks.proofs.Claims.{Tables, round-trip, packed-before-unpacks, pack-is-shortest, pack-numbers, check-numbers, unpack-numbers, pack-one-answer, unpack-one-answer, pack-forgets, unpack-forgets, refused-pack-changes-nothing, refused-unpack-changes-nothing}
 use Rattle.exam_rules.specs.File.{Entry, fileLength, fileBytes}
 use Rattle.exam_rules.specs.Reading.{examIn, fileIn, entryOf}
-use Rattle.exam_rules.specs.Numbers.{findNumber, blockIn}
-use Rattle.exam_rules.specs.Calls.{located}
+use Rattle.exam_rules.specs.Numbers.{openInNumber, findNumber, blockIn, nextSlot}
+use Rattle.exam_rules.specs.Calls.{located, Lent, lent, wordsOf, filled}
 use Rattle.exam_rules.specs.Maps.{Map, fileOf, changed}
 use Rattle.exam_rules.specs.declared.Located.{Located}
 use Rattle.exam_rules.specs.declared.Made.{Made}
-use Rattle.exam_rules.proofs.Accept.{ReplaceTakes}
+use Rattle.exam_rules.specs.declared.Record.{Record}
+use Rattle.exam_rules.specs.declared.Filled.{Filled}
+use Rattle.exam_rules.proofs.Accept.{ReplaceTakes, AppendAllTakes, foretold}
 use Rattle.exam_rules.proofs.Kept.{found-part}
 use Rattle.exam_rules.proofs.Exchanged.{found-old}
-use Rattle.exams.proofs.Claims.{MadeOf, created, grown, exchanged, made-opens, made-fetches, packed-before-fetches, MadeBefore, earlier-opens, earlier-fetches, earlier-cut-is-never-whole, append-fetches, replace-fetches, replace-is-its-parts, replace-is-afresh, cut-is-never-whole, create-numbers, open-numbers, locate-numbers, fetch-numbers, append-numbers, replace-numbers, create-one-answer, fetch-one-answer, append-one-answer, replace-one-answer, fetch-forgets, append-forgets, replace-forgets, refused-create-changes-nothing, refused-locate-tells-nothing, refused-fetch-changes-nothing, refused-append-changes-nothing, refused-replace-changes-nothing, replace-exchanges, replace-keeps-trailer, replace-length, replace-keeps-slots, replace-keeps-blocks, replace-moves-later, replace-puts-block, freed-bytes-are-zero, replace-leaves-the-rest, located-entry, own-exam, located-has, fetch-accepts, append-accepts, replace-accepts}
-use Rattle.coil.specs.Calls.{CoilOpens, CoilChecks, CoilPacks, CoilUnpacks, CoilCreates, CoilFinds, CoilFetches, CoilAppends, CoilReplaces}
+use Rattle.exam_rules.proofs.Staying.{SlotsFit}
+use Rattle.exams.proofs.Claims.{MadeOf, created, grown, exchanged, made-opens, made-fetches, packed-before-fetches, MadeBefore, earlier-opens, earlier-fetches, earlier-cut-is-never-whole, append-fetches, replace-fetches, replace-is-its-parts, replace-is-afresh, cut-is-never-whole, create-numbers, open-numbers, locate-numbers, fetch-numbers, append-numbers, replace-numbers, create-one-answer, fetch-one-answer, append-one-answer, replace-one-answer, fetch-forgets, append-forgets, replace-forgets, refused-create-changes-nothing, refused-locate-tells-nothing, refused-fetch-changes-nothing, refused-append-changes-nothing, refused-replace-changes-nothing, replace-exchanges, replace-keeps-trailer, replace-length, replace-keeps-slots, replace-keeps-blocks, replace-moves-later, replace-puts-block, freed-bytes-are-zero, replace-leaves-the-rest, located-entry, own-exam, located-has, fetch-accepts, append-accepts, replace-accepts, append-all-one-answer, append-all-answers, append-all-accepts, append-all-numbers, append-all-own-exam, append-all-forgets, refused-append-all-changes-nothing, append-all-of-none, append-all-of-one, OneAfterAnother, append-all-is-appends, ItsAppends, append-all-has-its-appends, append-all-counts, append-all-adds, append-all-keeps-slots, mapOf, append-all-fetches, made-append-all}
+use Rattle.coil.specs.Calls.{CoilOpens, CoilChecks, CoilPacks, CoilUnpacks, CoilCreates, CoilFinds, CoilFetches, CoilAppends, CoilAppendsAll, CoilReplaces}
 
 -- ---- there and back
 
@@ -53,6 +56,13 @@ pub coil-append-fetches : {b : List ℕ} {l exam slot : ℕ} {words fcm dfcm ben
     → (s ≡ 0) × (n ≡ length words) × (room' ≡ over words room)
 coil-append-fetches h w v c e q lf ld enough = told (append-fetches h w v c e q lf ld enough)
 
+-- So it gives back the words of each record that coil_append_all stored, though a later one was refused.
+pub coil-append-all-fetches : (first : List Record) (x : Record) (rest : List Record) {b : List ℕ} {l exam : ℕ} {words fcm dfcm bench b' f' d' bench' f₂ d₂ room f₂' d₂' room' : List ℕ} {r k m s n : ℕ}
+    → Bytes b → SlotsFit (first ++ x ∷ rest) → Words words → CoilAppendsAll b l exam (first ++ x ∷ rest) words fcm dfcm bench r b' f' d' bench' k m → length first < k
+    → CoilFetches b' m exam (x .slot) f₂ d₂ room s f₂' d₂' room' n → length f₂ ≡ length fcm → length d₂ ≡ length dfcm → x .count ≤ length room
+    → (s ≡ 0) × (n ≡ x .count) × (room' ≡ over (wordsOf x words) room)
+coil-append-all-fetches first x rest h w v c less q lf ld enough = told (append-all-fetches first x rest h w v c less q lf ld enough)
+
 -- So it gives back what coil_replace put in a slot's place.
 pub coil-replace-fetches : {b : List ℕ} {l exam slot : ℕ} {words fcm dfcm bench b' f' d' bench' f₂ d₂ room f₂' d₂' room' : List ℕ} {r m s n : ℕ} → Bytes b → Words words
     → CoilReplaces b l exam slot words fcm dfcm bench r b' f' d' bench' m → r ≡ 0
@@ -69,6 +79,12 @@ pub coil-append-makes : {exam t : ℕ} {ms : List Map} {b : List ℕ} {l slot : 
     → MadeOf exam t ms b l → slot < 2 ^ 32 → Words words → CoilAppends b l exam slot words fcm dfcm bench r b' f' d' bench' m → r ≡ 0
     → MadeOf exam t (ms ++ (record { slot = slot; words = words } ∷ [])) b' m
 coil-append-makes k s w c e = grown k s w c e
+
+-- With coil_append_all it has a map more for each record that went in, though a later one was refused.
+pub coil-append-all-makes : {exam t : ℕ} {ms : List Map} {b : List ℕ} {l : ℕ} {records : List Record} {words fcm dfcm bench b' f' d' bench' : List ℕ} {r k m : ℕ}
+    → MadeOf exam t ms b l → SlotsFit records → Words words → CoilAppendsAll b l exam records words fcm dfcm bench r b' f' d' bench' k m → (r ≡ 0) ⊎ (0 < k)
+    → MadeOf exam t (ms ++ map (mapOf words) (take k records)) b' m
+coil-append-all-makes h w v c e = made-append-all h w v c e
 
 -- With coil_replace it is made of the changed list: other words in one map.
 pub coil-replace-makes : {exam t : ℕ} {ms : List Map} {b : List ℕ} {l slot : ℕ} {words fcm dfcm bench b' f' d' bench' : List ℕ} {r m : ℕ}
@@ -204,6 +220,11 @@ pub coil-append-numbers : {b : List ℕ} {l exam slot : ℕ} {words fcm dfcm ben
     → List·Mem r (0 ∷ 4 ∷ 7 ∷ 8 ∷ 9 ∷ 12 ∷ 11 ∷ 1 ∷ 2 ∷ 3 ∷ [])
 coil-append-numbers c = append-numbers c
 
+-- coil_append_all answers 0, one of coil_open's numbers, 15, 12, 11, 1, 2 or 3.
+pub coil-append-all-numbers : {b : List ℕ} {l exam : ℕ} {records : List Record} {words fcm dfcm bench b' f' d' bench' : List ℕ} {r k m : ℕ} → CoilAppendsAll b l exam records words fcm dfcm bench r b' f' d' bench' k m
+    → List·Mem r (0 ∷ 4 ∷ 7 ∷ 8 ∷ 9 ∷ 15 ∷ 12 ∷ 11 ∷ 1 ∷ 2 ∷ 3 ∷ [])
+coil-append-all-numbers c = append-all-numbers c
+
 -- coil_replace answers 0, one of coil_find's numbers, 1, 2 or 3.
 pub coil-replace-numbers : {b : List ℕ} {l exam slot : ℕ} {words fcm dfcm bench b' f' d' bench' : List ℕ} {r m : ℕ} → CoilReplaces b l exam slot words fcm dfcm bench r b' f' d' bench' m
     → List·Mem r (0 ∷ 4 ∷ 7 ∷ 8 ∷ 9 ∷ 10 ∷ 1 ∷ 2 ∷ 3 ∷ [])
@@ -260,6 +281,14 @@ coil-append-one-answer p q =
     let a = append-one-answer p q in
     (ap (λ (x : Made). x .number) (a .0), a .1, a .2, a .3, a .4, ap (λ (x : Made). x .length) (a .0))
 
+-- Of coil_append_all's answer, the buffer, both tables, the bench buffer, the lent count and the lent length, the promise admits one value each.
+pub coil-append-all-one-answer : {b : List ℕ} {l exam : ℕ} {records : List Record} {words fcm dfcm bench b₁ f₁ d₁ n₁ b₂ f₂ d₂ n₂ : List ℕ} {r₁ k₁ l₁ r₂ k₂ l₂ : ℕ}
+    → CoilAppendsAll b l exam records words fcm dfcm bench r₁ b₁ f₁ d₁ n₁ k₁ l₁ → CoilAppendsAll b l exam records words fcm dfcm bench r₂ b₂ f₂ d₂ n₂ k₂ l₂
+    → (r₁ ≡ r₂) × (b₁ ≡ b₂) × (f₁ ≡ f₂) × (d₁ ≡ d₂) × (n₁ ≡ n₂) × (k₁ ≡ k₂) × (l₁ ≡ l₂)
+coil-append-all-one-answer p q =
+    let a = append-all-one-answer p q in
+    (ap (λ (x : Filled). x .number) (a .0), a .1, a .2, a .3, a .4, ap (λ (x : Filled). x .appended) (a .0), ap (λ (x : Filled). x .length) (a .0))
+
 -- Of coil_replace's answer, the buffer, both tables, the bench buffer and the lent length, the promise admits one value each.
 pub coil-replace-one-answer : {b : List ℕ} {l exam slot : ℕ} {words fcm dfcm bench b₁ f₁ d₁ n₁ b₂ f₂ d₂ n₂ : List ℕ} {r₁ l₁ r₂ l₂ : ℕ}
     → CoilReplaces b l exam slot words fcm dfcm bench r₁ b₁ f₁ d₁ n₁ l₁ → CoilReplaces b l exam slot words fcm dfcm bench r₂ b₂ f₂ d₂ n₂ l₂
@@ -298,10 +327,81 @@ pub coil-refused-append : {b : List ℕ} {l exam slot : ℕ} {words fcm dfcm ben
     → (m ≡ 0) × (b' ≡ b) × (f' ≡ fcm) × (d' ≡ dfcm) × (bench' ≡ bench)
 coil-refused-append c h = refused-append-changes-nothing c h
 
+-- A refused coil_append_all with none in. (Where some went in, they stay: see `coil-append-all-is-appends`.)
+pub coil-refused-append-all : {b : List ℕ} {l exam : ℕ} {records : List Record} {words fcm dfcm bench b' f' d' bench' : List ℕ} {r k m : ℕ} → CoilAppendsAll b l exam records words fcm dfcm bench r b' f' d' bench' k m
+    → (r ≡ 0 → ⊥) → k ≡ 0 → (m ≡ 0) × (b' ≡ b) × (f' ≡ fcm) × (d' ≡ dfcm) × (bench' ≡ bench)
+coil-refused-append-all c h z = refused-append-all-changes-nothing c h z
+
 -- A refused coil_replace.
 pub coil-refused-replace : {b : List ℕ} {l exam slot : ℕ} {words fcm dfcm bench b' f' d' bench' : List ℕ} {r m : ℕ} → CoilReplaces b l exam slot words fcm dfcm bench r b' f' d' bench' m → (r ≡ 0 → ⊥)
     → (m ≡ 0) × (b' ≡ b) × (f' ≡ fcm) × (d' ≡ dfcm) × (bench' ≡ bench)
 coil-refused-replace c h = refused-replace-changes-nothing c h
+
+-- ---- coil_append_all is coil_append, one record after another
+
+-- With no record it changes nothing, and answers coil_open's number, none in, and where that is 0 the length that was given.
+pub coil-append-all-of-none : {b : List ℕ} {l exam : ℕ} {words fcm dfcm bench b' f' d' bench' : List ℕ} {r k m : ℕ} → CoilAppendsAll b l exam [] words fcm dfcm bench r b' f' d' bench' k m
+    → (r ≡ openInNumber b l exam) × (k ≡ 0) × (m ≡ afterwards r l 0) × (b' ≡ b) × (f' ≡ fcm) × (d' ≡ dfcm) × (bench' ≡ bench)
+coil-append-all-of-none {l = l} c =
+    let a = append-all-of-none c in
+    let n = ap (λ (x : Filled). x .number) (a .0) in
+    (n, ap (λ (x : Filled). x .appended) (a .0), ap (λ (x : Filled). x .length) (a .0) ∙ ap (λ (i : ℕ). afterwards i l 0) (sym n), a .1, a .2, a .3, a .4)
+
+-- With one record, within the words, it is coil_append of the record's words: the same answer and length, the same left; and one in where that is 0.
+pub coil-append-all-of-one : {b : List ℕ} {l exam : ℕ} {x : Record} {words fcm dfcm bench b' f' d' bench' : List ℕ} {r k m : ℕ} → x .first + x .count ≤ length words
+    → CoilAppendsAll b l exam (x ∷ []) words fcm dfcm bench r b' f' d' bench' k m
+    → CoilAppends b l exam (x .slot) (wordsOf x words) fcm dfcm bench r b' f' d' bench' m × (k ≡ afterwards r 1 0)
+coil-append-all-of-one h c = append-all-of-one h c
+
+-- Where the file opens, what it answers and leaves is what coil_append answers and leaves, called for one record after another up to the first refusal. (`OneAfterAnother`
+-- asks each of them what CoilAppends says.)
+pub coil-append-all-is-appends : {b : List ℕ} {l exam : ℕ} {records : List Record} {words fcm dfcm bench b' f' d' bench' : List ℕ} {r k m : ℕ} {n i l' : ℕ} {s' : Lent} → Bytes b → SlotsFit records → CoilOpens b l exam 0
+    → OneAfterAnother exam words records l (lent b fcm dfcm bench) n i l' s' → CoilAppendsAll b l exam records words fcm dfcm bench r b' f' d' bench' k m
+    → (r ≡ n) × (k ≡ i) × (m ≡ filled n i l' .length) × (b' ≡ s' .file) × (f' ≡ s' .fcm) × (d' ≡ s' .dfcm) × (bench' ≡ s' .bench)
+coil-append-all-is-appends h w o g c =
+    let a = append-all-is-appends h w (sym o) g c in
+    (ap (λ (x : Filled). x .number) (a .0), ap (λ (x : Filled). x .appended) (a .0), ap (λ (x : Filled). x .length) (a .0), a .1, a .2, a .3, a .4)
+
+-- And there are such appends: with the number that it answers, and as many in.
+pub coil-append-all-has-its-appends : {b : List ℕ} {l exam : ℕ} {records : List Record} {words fcm dfcm bench b' f' d' bench' : List ℕ} {r k m : ℕ} → Bytes b → SlotsFit records → CoilOpens b l exam 0
+    → CoilAppendsAll b l exam records words fcm dfcm bench r b' f' d' bench' k m
+    → ItsAppends exam words records l (lent b fcm dfcm bench) (record { number = r; appended = k; length = m }) (lent b' f' d' bench')
+coil-append-all-has-its-appends h w o c = append-all-has-its-appends h w (sym o) c
+
+-- Where the file opens, number, count and length are what `foretold` finds record by record from what is given alone.
+pub coil-append-all-answers : {b : List ℕ} {l exam : ℕ} {records : List Record} {words fcm dfcm bench b' f' d' bench' : List ℕ} {r k m : ℕ} → Bytes b → SlotsFit records → CoilOpens b l exam 0
+    → CoilAppendsAll b l exam records words fcm dfcm bench r b' f' d' bench' k m
+    → record { number = r; appended = k; length = m }
+    ≡ foretold words (fileIn (take l b) .t) (length fcm) (length dfcm) (length b) (length bench) (length (fileIn (take l b) .entries)) (nextSlot 0 (fileIn (take l b) .entries)) 0 l records
+coil-append-all-answers h w o c = append-all-answers h w (sym o) c
+
+-- It answers 0 just where the file opens and each record has what it needs.
+pub coil-append-all-accepts : {b : List ℕ} {l exam : ℕ} {records : List Record} {words fcm dfcm bench b' f' d' bench' : List ℕ} {r k m : ℕ} → Bytes b → SlotsFit records
+    → CoilAppendsAll b l exam records words fcm dfcm bench r b' f' d' bench' k m → (r ≡ 0) ↔ AppendAllTakes b l exam records words (length fcm) (length dfcm) (length bench)
+coil-append-all-accepts h w c = append-all-accepts h w c
+
+-- No more maps go in than there are records, and all where it answers 0.
+pub coil-append-all-counts : {b : List ℕ} {l exam : ℕ} {records : List Record} {words fcm dfcm bench b' f' d' bench' : List ℕ} {r k m : ℕ} → CoilAppendsAll b l exam records words fcm dfcm bench r b' f' d' bench' k m
+    → (k ≤ length records) × (r ≡ 0 → k ≡ length records)
+coil-append-all-counts c = append-all-counts c
+
+-- Where it answers 0, or a map went in, the file that it leaves opens for the same exam number.
+pub coil-append-all-opens : {b : List ℕ} {l exam : ℕ} {records : List Record} {words fcm dfcm bench b' f' d' bench' : List ℕ} {r k m : ℕ} {o : ℕ} → Bytes b → SlotsFit records → CoilAppendsAll b l exam records words fcm dfcm bench r b' f' d' bench' k m
+    → (r ≡ 0) ⊎ (0 < k) → CoilOpens b' m exam o → o ≡ 0
+coil-append-all-opens h w c e q = q ∙ append-all-adds h w c e
+
+-- And every slot that coil_find found before it finds afterwards, at the same offset and with the same length and bytes.
+pub coil-append-all-keeps-slots : {b : List ℕ} {l exam : ℕ} {records : List Record} {words fcm dfcm bench b' f' d' bench' : List ℕ} {r k m : ℕ} → Bytes b → SlotsFit records → CoilAppendsAll b l exam records words fcm dfcm bench r b' f' d' bench' k m → (r ≡ 0) ⊎ (0 < k)
+    → (s : ℕ) {offset size : ℕ} → CoilFinds b l exam s 0 offset size → CoilFinds b' m exam s 0 offset size × (blockIn b' m s ≡ blockIn b l s)
+unfolding located
+coil-append-all-keeps-slots {b} {l} {exam} {b' = b'} {m = m} h w c e s found =
+    let z = sym (ap (λ (x : Located). x .number) found) in
+    let a = append-all-keeps-slots h w c e s z in
+    let was = entryOf s (fileIn (take l b)) in
+    let o = ap (λ (x : Located). x .offset) found ∙ afterwards-new _ (was .offset) 0 z in
+    let n = ap (λ (x : Located). x .size) found ∙ afterwards-new _ (was .size) 0 z in
+    let is = entryOf s (fileIn (take m b')) in
+    (rw (o, n, afterwards-new _ (is .offset) 0 (a .0), afterwards-new _ (is .size) 0 (a .0), a .0, a .1) refl, a .2)
 
 -- ---- a replace exchanges one block and keeps all else
 
@@ -412,6 +512,14 @@ coil-append-forgets p q e g z =
     let a = append-forgets p q e g z in
     (ap (λ (x : Made). x .number) (a .0), a .1, a .2, a .3, a .4, ap (λ (x : Made). x .length) (a .0))
 
+-- Two runs of coil_append_all, refused or not: answer, buffer, bench buffer, count and length are equal, and where a map went in the tables.
+pub coil-append-all-forgets : {b : List ℕ} {l exam : ℕ} {records : List Record} {words f₁ d₁ f₂ d₂ bench b₁ f₁' d₁' n₁ b₂ f₂' d₂' n₂ : List ℕ} {r₁ k₁ l₁ r₂ k₂ l₂ : ℕ}
+    → CoilAppendsAll b l exam records words f₁ d₁ bench r₁ b₁ f₁' d₁' n₁ k₁ l₁ → CoilAppendsAll b l exam records words f₂ d₂ bench r₂ b₂ f₂' d₂' n₂ k₂ l₂ → length f₁ ≡ length f₂ → length d₁ ≡ length d₂
+    → (r₁ ≡ r₂) × (b₁ ≡ b₂) × (n₁ ≡ n₂) × (k₁ ≡ k₂) × (l₁ ≡ l₂) × (0 < k₁ → (f₁' ≡ f₂') × (d₁' ≡ d₂'))
+coil-append-all-forgets p q e g =
+    let a = append-all-forgets p q e g in
+    (ap (λ (x : Filled). x .number) (a .0), a .1, a .2, ap (λ (x : Filled). x .appended) (a .0), ap (λ (x : Filled). x .length) (a .0), a .3)
+
 -- Two accepted runs of coil_replace: answer, buffer, tables, bench buffer and length are equal.
 pub coil-replace-forgets : {b : List ℕ} {l exam slot : ℕ} {words f₁ d₁ f₂ d₂ bench b₁ f₁' d₁' n₁ b₂ f₂' d₂' n₂ : List ℕ} {r₁ l₁ r₂ l₂ : ℕ}
     → CoilReplaces b l exam slot words f₁ d₁ bench r₁ b₁ f₁' d₁' n₁ l₁ → CoilReplaces b l exam slot words f₂ d₂ bench r₂ b₂ f₂' d₂' n₂ l₂ → length f₁ ≡ length f₂ → length d₁ ≡ length d₂ → r₁ ≡ 0
@@ -441,6 +549,11 @@ coil-fetch-own-exam c e = fetch-accepts c .0 e .finds .opens .own
 pub coil-append-own-exam : {b : List ℕ} {l exam slot : ℕ} {words fcm dfcm bench b' f' d' bench' : List ℕ} {r m : ℕ} → CoilAppends b l exam slot words fcm dfcm bench r b' f' d' bench' m → r ≡ 0
     → examIn (take l b) ≡ exam
 coil-append-own-exam c e = append-accepts c .0 e .opens .own
+
+-- Where coil_append_all answers 0, or a map went in, the exam number in the file is the one asked for.
+pub coil-append-all-own-exam : {b : List ℕ} {l exam : ℕ} {records : List Record} {words fcm dfcm bench b' f' d' bench' : List ℕ} {r k m : ℕ} → CoilAppendsAll b l exam records words fcm dfcm bench r b' f' d' bench' k m
+    → (r ≡ 0) ⊎ (0 < k) → examIn (take l b) ≡ exam
+coil-append-all-own-exam c e = append-all-own-exam c e
 
 -- Where coil_replace answers 0, the exam number in the file is the one asked for.
 pub coil-replace-own-exam : {b : List ℕ} {l exam slot : ℕ} {words fcm dfcm bench b' f' d' bench' : List ℕ} {r m : ℕ} → CoilReplaces b l exam slot words fcm dfcm bench r b' f' d' bench' m → r ≡ 0

@@ -3,7 +3,8 @@ use mathlib.Core.Path.{_≡_}
 use Prim.Native.Nat.{ℕ}
 use mathlib.Core.List.{List}
 use Rattle.block_rules.specs.Calls.{Packs, checked, Unpacks}
-use Rattle.exam_rules.specs.Calls.{opened, openedNumber, located, Fetches, Creates, Appends, Replaces}
+use Rattle.exam_rules.specs.Calls.{opened, openedNumber, located, Fetches, Creates, Appends, AppendsAll, Replaces}
+use Rattle.exam_rules.specs.declared.Record.{Record}
 
 -- coil_open(file, length, exam): open's number alone
 abbrev pub CoilOpens : List ℕ → (length exam : ℕ) → (r : ℕ) → Type 0
@@ -37,6 +38,11 @@ CoilFetches b l exam slot fcm dfcm words r fcm' dfcm' words' count = Fetches b l
 abbrev pub CoilAppends : (b : List ℕ) → (length exam slot : ℕ) → (words fcm dfcm bench : List ℕ) → (r : ℕ) → (b' fcm' dfcm' bench' : List ℕ) → (newLength : ℕ) → Type 0
 CoilAppends b l exam slot words fcm dfcm bench r b' fcm' dfcm' bench' length =
     Appends b l exam slot words fcm dfcm bench (record { number = r; length = length }) b' fcm' dfcm' bench'
+
+-- coil_append_all(file, length, exam, records, words, fcm, dfcm, bench, appended, new_length), as append_all
+abbrev pub CoilAppendsAll : (b : List ℕ) → (length exam : ℕ) → (records : List Record) → (words fcm dfcm bench : List ℕ) → (r : ℕ) → (b' fcm' dfcm' bench' : List ℕ) → (appended newLength : ℕ) → Type 0
+CoilAppendsAll b l exam records words fcm dfcm bench r b' fcm' dfcm' bench' appended length =
+    AppendsAll b l exam records words fcm dfcm bench (record { number = r; appended = appended; length = length }) b' fcm' dfcm' bench'
 
 -- coil_replace(file, length, exam, slot, words, fcm, dfcm, bench, new_length), as replace
 abbrev pub CoilReplaces : (b : List ℕ) → (length exam slot : ℕ) → (words fcm dfcm bench : List ℕ) → (r : ℕ) → (b' fcm' dfcm' bench' : List ℕ) → (newLength : ℕ) → Type 0

@@ -1,6 +1,7 @@
 // The calls of the store for C: each is the store's own call, with its number as the answer and what
 // else it tells put into lent numbers. include/coil.h declares them.
-ghost use Rattle.coil.specs.Calls.{CoilOpens, CoilChecks, CoilPacks, CoilUnpacks, CoilCreates, CoilFinds, CoilFetches, CoilAppends, CoilReplaces};
+ghost use Rattle.coil.specs.Calls.{CoilOpens, CoilChecks, CoilPacks, CoilUnpacks, CoilCreates, CoilFinds, CoilFetches, CoilAppends, CoilAppendsAll, CoilReplaces};
+use exams::Record;
 
 // Opens the file in the first bytes of a buffer for an exam number, which must be its own.
 #[no_mangle]
@@ -114,6 +115,28 @@ pub extern "C" fn coil_append(
     ensures { λ r. ⌜ CoilAppends (now (file .entry)) length exam slot (now (words .entry)) (now (fcm .entry)) (now (dfcm .entry)) (now (bench .entry)) r (now (file .exit)) (now (fcm .exit)) (now (dfcm .exit)) (now (bench .exit)) (now («new_length» .exit)) ⌝ }
 {
     let answer = exams::append(file, length, exam, slot, words, fcm, dfcm, bench);
+    *new_length = answer.length;
+    answer.number
+}
+
+// Appends the map of each record, up to the first that is refused.
+#[no_mangle]
+pub extern "C" fn coil_append_all(
+    file: &mut [u8],
+    length: usize,
+    exam: u64,
+    records: &[Record],
+    words: &[u64],
+    fcm: &mut [u64],
+    dfcm: &mut [u64],
+    bench: &mut [u8],
+    appended: &mut usize,
+    new_length: &mut usize,
+) -> u32
+    ensures { λ r. ⌜ CoilAppendsAll (now (file .entry)) length exam (now (records .entry)) (now (words .entry)) (now (fcm .entry)) (now (dfcm .entry)) (now (bench .entry)) r (now (file .exit)) (now (fcm .exit)) (now (dfcm .exit)) (now (bench .exit)) (now (appended .exit)) (now («new_length» .exit)) ⌝ }
+{
+    let answer = exams::append_all(file, length, exam, records, words, fcm, dfcm, bench);
+    *appended = answer.appended;
     *new_length = answer.length;
     answer.number
 }

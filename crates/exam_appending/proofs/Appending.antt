@@ -6,7 +6,7 @@ use native.Mathlib.Omega.{arith}
 use lib.ListN.{length, take, drop, length-append}
 use Rattle.words.specs.Bytes.{Bytes, field}
 use Rattle.answers.specs.Answers.{over}
-use Rattle.answers.proofs.Checks.{fails-here, fails-later, last-decides, afterwards-new, afterwards-old}
+use Rattle.answers.proofs.Checks.{fails-here, fails-later, last-decides, afterwards-new}
 use Rattle.block_rules.specs.Block.{block}
 use Rattle.block_rules.specs.Numbers.{tOf}
 use Rattle.block_rules.specs.Inside.{PacksAll}
@@ -22,7 +22,7 @@ use Rattle.exam_rules.specs.declared.Opened.{Opened}
 use Rattle.exam_rules.specs.declared.Opened.the-variants.{Done, Refused}
 use Rattle.exam_rules.proofs.Opens.{refused-tells, done-tells, standing}
 use Rattle.exam_rules.proofs.Parts.{tells-edition, tells-t, tells-entries, tells-start, entries-are, t-small}
-use Rattle.exam_rules.proofs.Changes.{change-refused, change-done, makes}
+use Rattle.exam_rules.proofs.Changes.{append-stopped, change-done, makes}
 use Rattle.exam_rules.proofs.Entries.{directory-snoc}
 use Rattle.exam_rules.proofs.Stands.{stands-ends, stands-body, stands-exam, stands-directory}
 use Rattle.exam_rules.proofs.Accept.{Appendable, appendable}
@@ -72,19 +72,13 @@ module _ (b : List ℕ) (l exam : ℕ) (tr : Trailer) (o : opened b l exam ≡ D
 -- ---- append
 
 module _ (b : List ℕ) (l exam slot : ℕ) (words fcm dfcm bench : List ℕ) where
-  append-stopped : (n : ℕ) → n ≡ appendsNumber b l exam slot words fcm dfcm bench → (n ≡ 0 → ⊥)
-      → Appends b l exam slot words fcm dfcm bench (record { number = n; length = 0 }) b fcm dfcm bench
-  append-stopped n e h =
-      let r : appendsNumber b l exam slot words fcm dfcm bench ≡ 0 → ⊥ = λ z. h (e ∙ z) in
-      record { file = change-refused _ _ _ _ e h; fcmLeft = sym (afterwards-old _ _ fcm r); dfcmLeft = sym (afterwards-old _ _ dfcm r); benchLeft = sym (afterwards-old _ _ bench r) }
-
   -- where opening refused
   pub append-refused : (a : Opened) (k n : ℕ) → a ≡ opened b l exam → a ≡ Refused k → n ≡ openedNumber a
       → Appends b l exam slot words fcm dfcm bench (record { number = n; length = 0 }) b fcm dfcm bench
   append-refused a k n e d q =
       let t = refused-tells b l exam k (sym e ∙ d) in
       let m : n ≡ k = q ∙ ap openedNumber d in
-      append-stopped n (fails-here _ _ _ (m ∙ t .0) (λ z. t .1 (sym m ∙ z))) (λ z. t .1 (sym m ∙ z))
+      append-stopped b l exam slot words fcm dfcm bench n (fails-here _ _ _ (m ∙ t .0) (λ z. t .1 (sym m ∙ z))) (λ z. t .1 (sym m ∙ z))
 
   -- where the file is open
   module _ (tr : Trailer) (o : opened b l exam ≡ Done tr) (next n : ℕ) (q : next ≡ nextSlot 0 (entriesAt (take l b) (tr .start) (tr .entries)))
@@ -99,7 +93,7 @@ module _ (b : List ℕ) (l exam slot : ℕ) (words fcm dfcm bench : List ℕ) wh
         (rw (← (tells-entries (take l b) tr st), ← (tells-t (take l b) tr st), v) at r) ∙ fails-later _ _ _ (done-tells b l exam tr o .0) (last-decides _)
 
     pub opened-refused : (n ≡ 0 → ⊥) → Appends b l exam slot words fcm dfcm bench (record { number = n; length = 0 }) b fcm dfcm bench
-    opened-refused h = append-stopped n append-number h
+    opened-refused h = append-stopped b l exam slot words fcm dfcm bench n append-number h
 
     module _ (z : n ≡ 0) where
       pub opened-appendable : Appendable (tr .entries) next slot (tr .t) (length words) (length fcm) (length dfcm) l (length b) (length bench)

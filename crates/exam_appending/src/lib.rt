@@ -47,7 +47,7 @@ fn append_number(
 }
 
 // Appends a slot to a file that is open.
-fn append_opened(
+pub fn append_opened(
     file: &mut [u8],
     length: usize,
     exam: u64,

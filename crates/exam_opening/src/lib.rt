@@ -10,7 +10,7 @@ use exam_rules::Opened;
 use exam_rules::Trailer;
 
 // What the trailer of a file tells, where it keeps its rules.
-fn trailer(file: &[u8]) -> Trailer
+pub fn trailer(file: &[u8]) -> Trailer
     requires { ⌜ trailerNumber (now file) ≡ 0 ⌝ }
     ensures { λ r. ⌜ r ≡ trailerOf (fileIn (now (file .entry))) ⌝ }
 {

@@ -1,5 +1,5 @@
 -- When each call on a file answers 0, in terms of what it is given.
-use mathlib.Core.Path.{_≡_, sym, ap, _∙_}
+use mathlib.Core.Path.{_≡_, refl, sym, ap, _∙_}
 use mathlib.Core.List.{List, [], _∷_}
 use Prim.Native.Nat.{ℕ, zero, suc, min, _+_, _-_, _*_, _^_, _≤_, _<_}
 use native.Mathlib.Omega.{arith}
@@ -9,8 +9,9 @@ use lib.Seq.{length-take-le}
 use borrow.Author.Tests.{leb-true, ltb-true, eqb-true, eqb-false, le-leb, lt-ltb, eq-eqb}
 use Rattle.words.proofs.Tests.{either}
 use Rattle.words.proofs.Moves.{same-equal, equal-same}
+use Rattle.answers.specs.Answers.{afterwards}
 use Rattle.answers.proofs.Checks.{unless-passes, unless-holds, none-fails, fails-later, last-decides, all-pass, passes, afterwards-new, afterwards-old}
-use Rattle.block_rules.specs.Block.{count, worst}
+use Rattle.block_rules.specs.Block.{block, count, worst}
 use Rattle.block_rules.specs.Numbers.{blockNumber}
 use Rattle.block_rules.specs.Inside.{Packable}
 use Rattle.block_rules.specs.declared.Unpacked.{Unpacked}
@@ -18,8 +19,10 @@ use Rattle.block_rules.proofs.Tables.{sized-power}
 use Rattle.block_rules.proofs.Accept.{where-number}
 use Rattle.exam_rules.specs.File.{Entry, entry, File, mark}
 use Rattle.exam_rules.specs.Reading.{markIn, editionIn, tIn, examIn, distanceIn, entriesIn, lengthIn, fileIn, indexOf, entryOf}
-use Rattle.exam_rules.specs.Numbers.{mostBytes, joins, entriesNumber, directoryNumber, openInNumber, slotNumber, findNumber, blockIn, fileTablesNumber, foundNumber, fetchNumber, createNumber, nextSlot, storeNumber, appendNumber, replaceNumber}
-use Rattle.exam_rules.specs.Calls.{trailerOf, opened, openedNumber, fetchesNumber, Fetches, appendsNumber}
+use Rattle.exam_rules.specs.Numbers.{mostBytes, joins, entriesNumber, directoryNumber, openInNumber, slotNumber, findNumber, blockIn, fileTablesNumber, foundNumber, fetchNumber, createNumber, nextSlot, storeNumber, appendNumber, recordNumber, replaceNumber}
+use Rattle.exam_rules.specs.Calls.{trailerOf, opened, openedNumber, fetchesNumber, Fetches, appendsNumber, wordsOf, filled}
+use Rattle.exam_rules.specs.declared.Record.{Record}
+use Rattle.exam_rules.specs.declared.Filled.{Filled}
 use Rattle.exam_rules.specs.declared.Opened.the-variants.{Done}
 use Rattle.exam_rules.proofs.Directory.{heads, heads-keep, joins-equal, equal-joins, edition-is, edition-one}
 use Rattle.exam_rules.proofs.Opens.{opens-in, opens-in-keep, t-in}
@@ -308,13 +311,92 @@ append-takes b l exam slot words fcm dfcm bench z =
       benchRoom = k .stores .packs .room;
     }
 
+append-passes : (k next slot t n f d l buffer bench : ℕ) → k < 1024 → next ≤ slot → f ≡ 2 ^ t → d ≡ f → n ≤ 65536 → l + 12 + worst n ≤ buffer → l + 12 + worst n ≤ mostBytes → worst n ≤ bench
+    → appendNumber k next slot t n f d l buffer bench ≡ 0
+unfolding appendNumber
+append-passes k next slot t n f d l buffer bench few above long same fewWords room small enough =
+    let store = store-passes t n f d (l + 12) buffer bench long same fewWords room small enough in
+    sym (passes _ _ _ _ (lt-ltb _ _ few) (passes _ _ _ _ (le-leb _ _ above) (sym store ∙ last-decides _)))
+
 pub takes-append : (b : List ℕ) (l exam slot : ℕ) (words fcm dfcm bench : List ℕ) → AppendTakes b l exam slot (length words) (length fcm) (length dfcm) (length bench)
     → appendsNumber b l exam slot words fcm dfcm bench ≡ 0
-unfolding appendNumber
 takes-append b l exam slot words fcm dfcm bench k =
-    let store = store-passes _ _ _ _ (l + 12) (length b) _ (k .fcmLong) (k .dfcmLong) (k .fewWords) (k .bufferRoom) (k .fileRoom) (k .benchRoom) in
-    let inner = passes _ _ _ _ (lt-ltb _ _ (k .few)) (passes _ _ _ _ (le-leb _ _ (k .above)) (sym store ∙ last-decides _)) in
-    sym (fails-later _ _ _ (takes-open b l exam (k .opens)) (inner ∙ last-decides _))
+    let inner =
+    append-passes _ _ slot _ (length words) _ _ l (length b) (length bench) (k .few) (k .above) (k .fcmLong) (k .dfcmLong) (k .fewWords) (k .bufferRoom) (k .fileRoom) (k .benchRoom) in
+    sym (fails-later _ _ _ (takes-open b l exam (k .opens)) (sym inner ∙ last-decides _))
+
+-- ---- append_all
+
+-- what a record needs, where it is given the words lent, the entries so far, the lowest slot that may come next, t, the lengths of the tables, of the file, of the
+-- buffer and of the bench buffer: its words within those lent, and what append needs of the rest
+pub record RecordTakes (r : Record) (words entries next t f d l buffer bench : ℕ) : Type 0 where
+  pub inside : r .first + r .count ≤ words
+  pub few : entries < 1024
+  pub above : next ≤ r .slot
+  pub fcmLong : f ≡ 2 ^ t
+  pub dfcmLong : d ≡ f
+  pub fewWords : r .count ≤ 65536
+  pub bufferRoom : l + 12 + worst (r .count) ≤ buffer
+  pub fileRoom : l + 12 + worst (r .count) ≤ 16777216
+  pub benchRoom : worst (r .count) ≤ bench
+
+module _ (words : List ℕ) (t f d buffer bench : ℕ) where
+  -- what each record needs, from so many entries, the lowest slot that may come next and l bytes on: the next one comes after an entry more, above its slot, and
+  -- behind its block and its entry
+  pub data RecordsTake : (entries next l : ℕ) → List Record → Type 0 where
+    no-record : {entries next l : ℕ} → RecordsTake entries next l []
+    a-record : {entries next l : ℕ} {r : Record} {rs : List Record} → RecordTakes r (length words) entries next t f d l buffer bench
+        → RecordsTake (entries + 1) (r .slot + 1) (l + 12 + length (block t (wordsOf r words))) rs → RecordsTake entries next l (r ∷ rs)
+
+  -- what append_all answers for records, from numbers alone: so many entries, the lowest slot that may come next, k maps in before and l bytes. After a record
+  -- that goes in there is an entry more, the next slot is above its own, and the file is longer by an entry and its block
+  unfoldable pub foretold : (entries next k l : ℕ) → List Record → Filled
+  foretold entries next k l [] = filled 0 k l
+  foretold entries next k l (r ∷ rs) =
+      let n = recordNumber r (length words) entries next t f d l buffer bench in
+      let then = foretold (entries + 1) (r .slot + 1) (k + 1) (l + 12 + length (block t (wordsOf r words))) rs in
+      afterwards n then (filled n k l)
+
+  pub foretold-takes : t ≤ 16 → (entries next k l : ℕ) (rs : List Record) → foretold entries next k l rs .number ≡ 0 → RecordsTake entries next l rs
+  unfolding foretold recordNumber
+  foretold-takes h entries next k l [] z = no-record
+  foretold-takes h entries next k l (r ∷ rs) z =
+      let n = recordNumber r (length words) entries next t f d l buffer bench in
+      let then = foretold (entries + 1) (r .slot + 1) (k + 1) (l + 12 + length (block t (wordsOf r words))) rs in
+      either (eqb n 0)
+      (λ q.
+      let y = eqb-true n 0 q in
+      let a = none-fails _ _ y in
+      let c = appendable _ _ _ _ _ _ _ _ _ _ h (none-fails _ _ (a .1) .0) in
+      let s = c .stores in
+      a-record
+      (record {
+        inside = leb-true _ _ (unless-holds _ _ (a .0) (omega arith));
+        few = c .few;
+        above = c .above;
+        fcmLong = s .size;
+        dfcmLong = s .packs .sized .same;
+        fewWords = s .packs .few;
+        bufferRoom = s .room;
+        fileRoom = s .small;
+        benchRoom = s .packs .room;
+      })
+      (foretold-takes h _ _ (k + 1) _ rs (sym (ap (λ (x : Filled). x .number) (afterwards-new n then (filled n k l) y)) ∙ z)))
+      (λ q. absurd (eqb-false n 0 q (sym (ap (λ (x : Filled). x .number) (afterwards-old n then (filled n k l) (eqb-false n 0 q))) ∙ z)))
+
+  pub takes-foretold : {entries next l : ℕ} {rs : List Record} (k : ℕ) → RecordsTake entries next l rs → foretold entries next k l rs .number ≡ 0
+  unfolding foretold recordNumber
+  takes-foretold k no-record = refl
+  takes-foretold k (a-record {entries = entries} {next = next} {l = l} {r = r} {rs = rs} c g) =
+      let p =
+      append-passes entries next (r .slot) t (r .count) f d l buffer bench (c .few) (c .above) (c .fcmLong) (c .dfcmLong) (c .fewWords) (c .bufferRoom) (c .fileRoom) (c .benchRoom) in
+      let y : recordNumber r (length words) entries next t f d l buffer bench ≡ 0 = sym (passes _ _ _ _ (le-leb _ _ (c .inside)) (sym p ∙ last-decides _)) in
+      ap (λ (x : Filled). x .number) (afterwards-new _ _ _ y) ∙ takes-foretold (k + 1) g
+
+-- what append_all needs: a file that opens, and what each record needs, from its t, its entries and its l bytes on
+pub record AppendAllTakes (b : List ℕ) (l exam : ℕ) (records : List Record) (words : List ℕ) (f d bench : ℕ) : Type 0 where
+  pub opens : OpenTakes b l exam
+  pub takes : RecordsTake words (fileIn (take l b) .t) f d (length b) bench (length (fileIn (take l b) .entries)) (nextSlot 0 (fileIn (take l b) .entries)) l records
 
 -- ---- replace
 

@@ -1,15 +1,21 @@
 -- Which numbers the calls on a file can answer.
-use mathlib.Core.Path.{refl}
-use mathlib.Core.List.{List, [], _∷_, List·Mem}
+use mathlib.Core.Path.{refl, ap}
+use mathlib.Core.List.{List, [], _∷_, List·Mem, mem-cons-self, mem-cast}
 use mathlib.Core.Bool.{Bool}
 use Prim.Native.Nat.{ℕ, _+_}
+use lib.Dec.{eqb}
 use lib.ListN.{length, take}
+use borrow.Author.Tests.{eqb-true, eqb-false}
+use Rattle.words.proofs.Tests.{either}
 use Rattle.answers.proofs.OneOf.{one-of-more, no-check-one-of, verdict-one-of, check-one-of, unless-one-of}
 use Rattle.block_rules.proofs.Answered.{block-one-of}
 use Rattle.exam_rules.specs.File.{Entry, File}
 use Rattle.exam_rules.specs.Reading.{fileIn}
-use Rattle.exam_rules.specs.Numbers.{entriesNumber, directoryNumber, fieldsNumber, trailerNumber, openNumber, openInNumber, slotNumber, findNumber, blockIn, fileTablesNumber, foundNumber, fetchNumber, createNumber, storeNumber, appendNumber, replaceNumber}
-use Rattle.exam_rules.specs.Calls.{appendsNumber}
+use Rattle.exam_rules.specs.Numbers.{entriesNumber, directoryNumber, fieldsNumber, trailerNumber, openNumber, openInNumber, slotNumber, findNumber, blockIn, fileTablesNumber, foundNumber, fetchNumber, createNumber, storeNumber, appendNumber, recordNumber, replaceNumber}
+use Rattle.exam_rules.specs.Calls.{Lent, appendsNumber, AppendsAll}
+use Rattle.exam_rules.specs.declared.Record.{Record}
+use Rattle.exam_rules.specs.declared.Filled.{Filled}
+use Rattle.exam_rules.proofs.Chain.{Goes, done, stops, went, all-fills, all-unopened}
 
 entries-one-of : (test : ℕ → ℕ → Bool) (lowest from : ℕ) (es : List Entry) (to : ℕ) → List·Mem (entriesNumber test lowest from es to) (0 ∷ 9 ∷ [])
 entries-one-of test lowest from [] to = unless-one-of (test from to) 9 refl
@@ -76,6 +82,24 @@ pub append-one-of : (b : List ℕ) (l exam slot : ℕ) (words fcm dfcm bench : L
 append-one-of b l exam slot words fcm dfcm bench =
     verdict-one-of _ _ (one-of-more _ _ (open-in-one-of b l exam) refl)
     (verdict-one-of _ _ (one-of-more _ _ (append-to-one-of _ _ _ _ _ _ _ _ _ _) refl) (no-check-one-of _))
+
+record-one-of : (r : Record) (words k next t f d l buffer bench : ℕ) → List·Mem (recordNumber r words k next t f d l buffer bench) (0 ∷ 15 ∷ 12 ∷ 11 ∷ 1 ∷ 2 ∷ 3 ∷ [])
+unfolding recordNumber
+record-one-of r words k next t f d l buffer bench =
+    check-one-of _ 15 _ (verdict-one-of _ _ (one-of-more _ _ (append-to-one-of _ _ _ _ _ _ _ _ _ _) refl) (no-check-one-of _)) refl
+
+goes-one-of : {words : List ℕ} {rs : List Record} {l : ℕ} {s : Lent} {n k l' : ℕ} {s' : Lent} → Goes words rs l s n k l' s' → List·Mem n (0 ∷ 15 ∷ 12 ∷ 11 ∷ 1 ∷ 2 ∷ 3 ∷ [])
+goes-one-of done = mem-cons-self
+goes-one-of (stops e h) = mem-cast e (record-one-of _ _ _ _ _ _ _ _ _ _)
+goes-one-of (went e z g) = goes-one-of g
+
+pub append-all-one-of : {b : List ℕ} {l exam : ℕ} {records : List Record} {words fcm dfcm bench b' f' d' bench' : List ℕ} {a : Filled}
+    → AppendsAll b l exam records words fcm dfcm bench a b' f' d' bench' → List·Mem (a .number) (0 ∷ 4 ∷ 7 ∷ 8 ∷ 9 ∷ 15 ∷ 12 ∷ 11 ∷ 1 ∷ 2 ∷ 3 ∷ [])
+append-all-one-of {b} {l} {exam} c =
+    let n = openInNumber b l exam in
+    either (eqb n 0)
+    (λ q. one-of-more _ _ (goes-one-of (all-fills c (eqb-true n 0 q) .goes)) refl)
+    (λ q. mem-cast (ap (λ (x : Filled). x .number) (all-unopened c (eqb-false n 0 q) .0)) (one-of-more _ _ (open-in-one-of b l exam) refl))
 
 pub replace-one-of : (b : List ℕ) (l exam slot n f d bench : ℕ)
     → List·Mem (replaceNumber b l exam slot n f d bench) (0 ∷ 4 ∷ 7 ∷ 8 ∷ 9 ∷ 10 ∷ 1 ∷ 2 ∷ 3 ∷ [])

@@ -11,7 +11,7 @@ use Rattle.words.proofs.Tests.{either}
 use Rattle.answers.specs.Answers.{over}
 use Rattle.answers.proofs.Checks.{afterwards-new, afterwards-old}
 use Rattle.exam_rules.specs.File.{File, fileLength, fileBytes, directoryBytes, trailerBytes}
-use Rattle.exam_rules.specs.Calls.{made, Changes}
+use Rattle.exam_rules.specs.Calls.{made, Changes, appendsNumber, Appends}
 use Rattle.exam_rules.specs.declared.Made.{Made}
 use Rattle.exam_rules.proofs.Lengths.{length-file}
 
@@ -20,6 +20,13 @@ unfolding made
 change-refused k n f b e h =
     let r : k ≡ 0 → ⊥ = λ z. h (e ∙ z) in
     record { answer = cc (afterwards-old _ (fileLength f) 0 r); fileLeft = sym (afterwards-old _ _ b r) }
+
+-- so an append that is refused
+pub append-stopped : (b : List ℕ) (l exam slot : ℕ) (words fcm dfcm bench : List ℕ) (n : ℕ) → n ≡ appendsNumber b l exam slot words fcm dfcm bench → (n ≡ 0 → ⊥)
+    → Appends b l exam slot words fcm dfcm bench (record { number = n; length = 0 }) b fcm dfcm bench
+append-stopped b l exam slot words fcm dfcm bench n e h =
+    let r : appendsNumber b l exam slot words fcm dfcm bench ≡ 0 → ⊥ = λ z. h (e ∙ z) in
+    record { file = change-refused _ _ _ _ e h; fcmLeft = sym (afterwards-old _ _ fcm r); dfcmLeft = sym (afterwards-old _ _ dfcm r); benchLeft = sym (afterwards-old _ _ bench r) }
 
 pub change-done : (k l : ℕ) (f : File) (b b' : List ℕ) → k ≡ 0 → l ≡ fileLength f → b' ≡ over (fileBytes f) b → Changes k f b (record { number = 0; length = l }) b'
 unfolding made

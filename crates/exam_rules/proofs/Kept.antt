@@ -107,7 +107,8 @@ module _ (b : List ℕ) (l exam s : ℕ) (z : findNumber b l exam s ≡ 0) where
 
 -- ---- the call
 
-module _ {b : List ℕ} {l exam slot : ℕ} {words fcm dfcm bench b' fcm' dfcm' bench' : List ℕ} {r : Made} (bytes : Bytes b) (w : slot < 2 ^ 32)
+-- an accepted append to a file that keeps the rules and fits its fields
+module _ {b : List ℕ} {l exam slot : ℕ} {words fcm dfcm bench b' fcm' dfcm' bench' : List ℕ} {r : Made} (g : Good (fileIn (take l b))) (w : slot < 2 ^ 32)
     (c : Appends b l exam slot words fcm dfcm bench r b' fcm' dfcm' bench') (e : r .number ≡ 0) where
   abbrev old : File
   old = fileIn (take l b)
@@ -115,44 +116,67 @@ module _ {b : List ℕ} {l exam slot : ℕ} {words fcm dfcm bench b' fcm' dfcm' 
   opened-old : OpensIn b l exam
   opened-old = opens-in b l exam (none-fails _ _ (sym (changes-number (c .file)) ∙ e) .0)
 
-  -- the buffer holds the file with one block more
-  pub more-holds : Holds b' (r .length) (appended old slot (block (old .t) words))
-  more-holds = appended-holds (good-read (take l b) exam (bytes-take l b bytes) (opened-old .is)) w c e
-
-  -- and it opens for the same exam number
-  pub more-opens : openInNumber b' (r .length) exam ≡ 0
+  -- leaves one that opens for the same exam number
+  pub good-opens : openInNumber b' (r .length) exam ≡ 0
   unfolding fileIn
-  more-opens = rw (opened-old .is .own) at (holds-opens more-holds)
+  good-opens = rw (opened-old .is .own) at (holds-opens (appended-holds g w c e))
 
   -- a slot that was found is found, with the same entry and the same block
-  pub slot-kept : (s : ℕ) → findNumber b l exam s ≡ 0
+  pub good-keeps : (s : ℕ) → findNumber b l exam s ≡ 0
       → (findNumber b' (r .length) exam s ≡ 0) × (entryOf s (fileIn (take (r .length) b')) ≡ entryOf s old) × (blockIn b' (r .length) s ≡ blockIn b l s)
   unfolding blockIn
-  slot-kept s z =
+  good-keeps s z =
       let blk = block (old .t) words in
       let x = entry slot (length (old .body)) (length blk) in
       let i = find-tells b l exam s z .1 in
-      let p = holds-parts more-holds in
+      let p = holds-parts (appended-holds g w c e) in
       let k = entry-kept old slot s blk i in
       let es = fileIn (take (r .length) b') .entries in
       let j : indexOf s es < length es = rw p (omega (arith, i, index-kept s (old .entries) x i, length-append (old .entries) (x ∷ []))) in (
-        find-passes b' (r .length) exam s more-opens j,
+        find-passes b' (r .length) exam s good-opens j,
         rw p k,
         rw (p, k) (block-kept old slot s blk (opened-old .is .directory) i),
       )
 
   -- the new slot is found, with the new block
-  pub slot-new : (findNumber b' (r .length) exam slot ≡ 0) × (blockIn b' (r .length) slot ≡ block (old .t) words)
+  pub good-finds : (findNumber b' (r .length) exam slot ≡ 0) × (blockIn b' (r .length) slot ≡ block (old .t) words)
   unfolding blockIn blockOf entryOf
-  slot-new =
+  good-finds =
       let blk = block (old .t) words in
+      let held = appended-holds g w c e in
       let x = entry slot (length (old .body)) (length blk) in
       let f = appended old slot blk in
-      let p = holds-parts more-holds in
+      let p = holds-parts held in
       let n = length (old .entries) in
       let at : (d : Entry) → getD (f .entries) n d ≡ x = λ d. getD-append-seam (old .entries) x [] d in
       let below : n < length (f .entries) = omega (arith, length-append (old .entries) (x ∷ [])) in
-      let i : indexOf slot (f .entries) ≡ n = rw (at x) at (index-of-entry f n x (more-holds .good .directory) below) in (
-        find-passes b' (r .length) exam slot more-opens (rw (p, i) below),
+      let i : indexOf slot (f .entries) ≡ n = rw (at x) at (index-of-entry f n x (held .good .directory) below) in (
+        find-passes b' (r .length) exam slot good-opens (rw (p, i) below),
         rw (p, i, at _, drop-append-seam) (take-length blk),
       )
+
+-- an accepted append to any file of bytes that opens: it keeps the rules and fits its fields
+module _ {b : List ℕ} {l exam slot : ℕ} {words fcm dfcm bench b' fcm' dfcm' bench' : List ℕ} {r : Made} (bytes : Bytes b) (w : slot < 2 ^ 32)
+    (c : Appends b l exam slot words fcm dfcm bench r b' fcm' dfcm' bench') (e : r .number ≡ 0) where
+  abbrev before : File
+  before = fileIn (take l b)
+
+  keeps-rules : Good before
+  keeps-rules = good-read (take l b) exam (bytes-take l b bytes) (opens-in b l exam (none-fails _ _ (sym (changes-number (c .file)) ∙ e) .0) .is)
+
+  -- the buffer holds the file with one block more
+  pub more-holds : Holds b' (r .length) (appended before slot (block (before .t) words))
+  more-holds = appended-holds keeps-rules w c e
+
+  -- and it opens for the same exam number
+  pub more-opens : openInNumber b' (r .length) exam ≡ 0
+  more-opens = good-opens keeps-rules w c e
+
+  -- a slot that was found is found, with the same entry and the same block
+  pub slot-kept : (s : ℕ) → findNumber b l exam s ≡ 0
+      → (findNumber b' (r .length) exam s ≡ 0) × (entryOf s (fileIn (take (r .length) b')) ≡ entryOf s before) × (blockIn b' (r .length) s ≡ blockIn b l s)
+  slot-kept s z = good-keeps keeps-rules w c e s z
+
+  -- the new slot is found, with the new block
+  pub slot-new : (findNumber b' (r .length) exam slot ≡ 0) × (blockIn b' (r .length) slot ≡ block (before .t) words)
+  slot-new = good-finds keeps-rules w c e

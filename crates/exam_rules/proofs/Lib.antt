@@ -3,6 +3,9 @@ pub mod Opens
 pub mod Parts
 pub mod Lengths
 pub mod Changes
+pub mod Filling
+pub mod Forgets
+pub mod Chain
 pub mod Entries
 pub mod Stands
 pub mod Accept
@@ -12,6 +15,7 @@ pub mod Back
 pub mod Resized
 pub mod Holds
 pub mod Kept
+pub mod Staying
 pub mod Exchanged
 pub mod Pieces
 pub mod Maps

@@ -1,8 +1,10 @@
 -- What each call on a file answers, and what it leaves in everything lent to it, refused or not.
 use mathlib.Core.Path.{_≡_}
-use Prim.Native.Nat.{ℕ}
+use Prim.Native.Nat.{ℕ, _+_}
 use mathlib.Core.List.{List, [], _∷_}
-use lib.ListN.{length, replicate, take}
+use mathlib.Core.Bool.{cond}
+use lib.Dec.{eqb}
+use lib.ListN.{length, replicate, take, drop}
 use Rattle.answers.specs.Answers.{firstFailure, afterwards, over}
 use Rattle.block_rules.specs.Predictors.{Memory, cleared, after}
 use Rattle.block_rules.specs.Block.{block}
@@ -10,9 +12,11 @@ use Rattle.block_rules.specs.Calls.{UnpacksWhere}
 use Rattle.block_rules.specs.declared.Unpacked.{Unpacked}
 use Rattle.exam_rules.specs.File.{File, fileLength, fileBytes, empty, appended, replaced}
 use Rattle.exam_rules.specs.Reading.{fileIn, entryOf}
-use Rattle.exam_rules.specs.Numbers.{openInNumber, findNumber, fetchNumber, blockIn, createNumber, appendNumberTo, replaceNumber}
+use Rattle.exam_rules.specs.Numbers.{openInNumber, findNumber, fetchNumber, blockIn, createNumber, appendNumberTo, recordNumberTo, replaceNumber}
 use Rattle.exam_rules.specs.declared.Located.{Located}
 use Rattle.exam_rules.specs.declared.Made.{Made}
+use Rattle.exam_rules.specs.declared.Record.{Record}
+use Rattle.exam_rules.specs.declared.Filled.{Filled}
 use Rattle.exam_rules.specs.declared.Trailer.{Trailer}
 use Rattle.exam_rules.specs.declared.Opened.{Opened}
 use Rattle.exam_rules.specs.declared.Opened.the-variants.{Done, Refused}
@@ -136,3 +140,76 @@ module _ (b : List ℕ) (l exam slot : ℕ) (words fcm dfcm bench : List ℕ) wh
     pub fcmLeft : fcm' ≡ afterwards replacesNumber (replacesMemory .fcm) fcm
     pub dfcmLeft : dfcm' ≡ afterwards replacesNumber (replacesMemory .dfcm) dfcm
     pub benchLeft : bench' ≡ afterwards replacesNumber (over replacesBlock bench) bench
+
+-- ---- append_all
+
+-- what append_all is lent to be changed: the buffer with the file, both tables, the bench buffer
+pub record Lent : Type 0 where
+  pub file : List ℕ
+  pub fcm : List ℕ
+  pub dfcm : List ℕ
+  pub bench : List ℕ
+
+abbrev pub lent : (file fcm dfcm bench : List ℕ) → Lent
+lent b fcm dfcm bench = record { file = b; fcm = fcm; dfcm = dfcm; bench = bench }
+
+-- the words of a record, among those in the one lent word buffer: so many from its first on
+abbrev pub wordsOf : Record → List ℕ → List ℕ
+wordsOf r words = take (r .count) (drop (r .first) words)
+
+-- a record, where the file of l bytes is open: 15, and then what append answers for its words, and leaves
+module _ (words : List ℕ) (r : Record) (l : ℕ) (s : Lent) where
+  abbrev pub recordFile : File
+  recordFile = fileIn (take l (s .file))
+
+  abbrev pub recordBlock : List ℕ
+  recordBlock = block (recordFile .t) (wordsOf r words)
+
+  abbrev pub recordMemory : Memory
+  recordMemory = after (recordFile .t) (cleared (recordFile .t)) (wordsOf r words)
+
+  abbrev pub recordAppendsNumber : ℕ
+  recordAppendsNumber = recordNumberTo recordFile r (length words) (length (s .fcm)) (length (s .dfcm)) l (length (s .file)) (length (s .bench))
+
+  unfoldable pub recordAppended : Made × Lent
+  recordAppended = (
+    made recordAppendsNumber (appended recordFile (r .slot) recordBlock),
+    afterwards recordAppendsNumber
+        (lent
+        (over (fileBytes (appended recordFile (r .slot) recordBlock)) (s .file))
+        (recordMemory .fcm)
+        (recordMemory .dfcm)
+        (over recordBlock (s .bench)))
+        s,
+  )
+
+-- the length that a refusal answers, where k maps went in and the file has l bytes then: the one reached, and 0 where none went in, as append does
+abbrev pub lengthKept : ℕ → ℕ → ℕ
+lengthKept k l = cond (eqb k 0) 0 l
+
+-- what append_all answers then
+abbrev pub filled : ℕ → ℕ → ℕ → Filled
+filled number k l = record { number = number; appended = k; length = afterwards number l (lengthKept k l) }
+
+-- the records one after another, up to the first that is refused, where the file of l bytes is open and k maps went in before
+unfoldable pub eachAppended : List ℕ → List Record → ℕ → ℕ → Lent → Filled × Lent
+eachAppended words [] k l s = (filled 0 k l, s)
+eachAppended words (r ∷ rs) k l s =
+    let p = recordAppended words r l s in
+    afterwards {A = Filled × Lent} (p .0 .number) (eachAppended words rs (k + 1) (p .0 .length) (p .1)) (filled (p .0 .number) k l, p .1)
+
+-- append_all(file, length, exam, records, words, fcm, dfcm, bench): open, then each record
+unfoldable pub allAppended : ℕ → ℕ → List Record → List ℕ → Lent → Filled × Lent
+allAppended l exam records words s =
+    afterwards {A = Filled × Lent} (openInNumber (s .file) l exam) (eachAppended words records 0 l s) (filled (openInNumber (s .file) l exam) 0 l, s)
+
+module _ (b : List ℕ) (l exam : ℕ) (records : List Record) (words fcm dfcm bench : List ℕ) where
+  abbrev pub appendsAll : Filled × Lent
+  appendsAll = allAppended l exam records words (lent b fcm dfcm bench)
+
+  pub record AppendsAll (r : Filled) (b' fcm' dfcm' bench' : List ℕ) : Type 0 where
+    pub answer : r ≡ appendsAll .0
+    pub fileLeft : b' ≡ appendsAll .1 .file
+    pub fcmLeft : fcm' ≡ appendsAll .1 .fcm
+    pub dfcmLeft : dfcm' ≡ appendsAll .1 .dfcm
+    pub benchLeft : bench' ≡ appendsAll .1 .bench

@@ -9,6 +9,7 @@ use Rattle.answers.specs.Answers.{unless, firstFailure}
 use Rattle.block_rules.specs.Block.{worst, count}
 use Rattle.block_rules.specs.Numbers.{blockNumber}
 use Rattle.exam_rules.specs.File.{Entry, File, mark, blockOf}
+use Rattle.exam_rules.specs.declared.Record.{Record}
 use Rattle.exam_rules.specs.Reading.{markIn, editionIn, tIn, examIn, distanceIn, entriesIn, lengthIn, fileIn, indexOf, entryOf}
 
 -- a file has at most 16,777,216 bytes
@@ -155,6 +156,18 @@ appendNumber k next slot t n f d l buffer bench =
 -- the same, for the file with these parts
 abbrev pub appendNumberTo : File → ℕ → ℕ → ℕ → ℕ → ℕ → ℕ → ℕ → ℕ
 appendNumberTo file slot n f d l buffer bench = appendNumber (length (file .entries)) (nextSlot 0 (file .entries)) slot (file .t) n f d l buffer bench
+
+-- append the map of a record, where so many words are lent: 15 where its first word plus its word count is above these, then as append
+unfoldable pub recordNumber : Record → ℕ → ℕ → ℕ → ℕ → ℕ → ℕ → ℕ → ℕ → ℕ → ℕ
+recordNumber r words k next t f d l buffer bench =
+    firstFailure
+    (unless (leb (r .first + r .count) words) 15
+    ∷ appendNumber k next (r .slot) t (r .count) f d l buffer bench
+    ∷ [])
+
+-- the same, for the file with these parts
+abbrev pub recordNumberTo : File → Record → ℕ → ℕ → ℕ → ℕ → ℕ → ℕ → ℕ
+recordNumberTo file r words f d l buffer bench = recordNumber r words (length (file .entries)) (nextSlot 0 (file .entries)) (file .t) f d l buffer bench
 
 -- replace the block of a slot by one of n words, with a bench buffer of so many bytes: find, then 1, 2, 3, as the file less its old block is kept
 unfoldable pub replaceNumber : List ℕ → ℕ → ℕ → ℕ → ℕ → ℕ → ℕ → ℕ → ℕ

@@ -28,3 +28,19 @@ pub struct Made {
     pub number: u32,
     pub length: usize,
 }
+
+// What append_all is told of a map: its slot, its first word and its word count in the one lent word
+// buffer. C lays it out so too.
+#[repr(C)]
+pub struct Record {
+    pub slot: u32,
+    pub first: usize,
+    pub count: usize,
+}
+
+// What append_all answers: the number, how many maps went in, and the file's length then, or 0.
+pub struct Filled {
+    pub number: u32,
+    pub appended: usize,
+    pub length: usize,
+}

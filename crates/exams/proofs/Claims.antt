@@ -1,38 +1,49 @@
--- What is promised of create, open, find, locate, fetch, append and replace, each promise with one line of plain words.
+-- What is promised of create, open, find, locate, fetch, append, replace and append_all, each promise with one line of plain words.
 use mathlib.Core.Path.{_≡_, refl, sym, ap, _∙_}
-use mathlib.Core.Logic.{_↔_}
-use mathlib.Core.List.{List, [], _∷_, _++_, map, map-append, List·Mem, mem-cast}
+use mathlib.Core.Logic.{_↔_, _⊎_, inl, inr}
+use mathlib.Core.List.{List, [], _∷_, _++_, map, map-append, append-assoc, append-nil, List·Mem, mem-cast}
 use Prim.Native.Nat.{ℕ, _+_, _^_, _≤_, _<_}
+use native.Mathlib.Numerals.{add-one}
 use native.Mathlib.Omega.{arith}
+use native.Mathlib.Nat.{zero-add}
+use lib.Dec.{leb, eqb}
 use lib.ListN.{length, getD, take, drop, length-map}
+use borrow.Author.Tests.{leb-true, leb-false, eqb-true, eqb-false}
 use Rattle.words.specs.Words.{Words}
 use Rattle.words.specs.Bytes.{Bytes}
-use Rattle.words.proofs.Each.{Each, none, each-more, each-at}
-use Rattle.answers.specs.Answers.{over}
-use Rattle.answers.proofs.Checks.{afterwards-new, afterwards-old}
+use Rattle.words.proofs.Each.{Each, none, more, each-more, each-at}
+use Rattle.words.proofs.Tests.{either}
+use Rattle.answers.specs.Answers.{afterwards, over}
+use Rattle.answers.proofs.Checks.{fails-here, afterwards-new, afterwards-old}
 use Rattle.block_rules.specs.Codes.{Choice, dfcmChosen, dfcmChosenByBytes, Thrifty}
 use Rattle.block_rules.specs.Block.{blockBy, block}
 use Rattle.block_rules.specs.Numbers.{blockNumber}
 use Rattle.block_rules.specs.declared.Unpacked.{Unpacked}
 use Rattle.exam_rules.specs.File.{entry, File, fileLength, fileBytes, appended, replaced}
 use Rattle.exam_rules.specs.Reading.{tIn, examIn, distanceIn, entriesIn, lengthIn, fileIn, entryOf}
-use Rattle.exam_rules.specs.Numbers.{openInNumber, findNumber, blockIn}
-use Rattle.exam_rules.specs.Calls.{opened, openedNumber, openedT, openedEntries, openedStart, Finds, located, Fetches, Creates, appendsNumber, Appends, replacesNumber, Replaces}
+use Rattle.exam_rules.specs.Numbers.{openInNumber, findNumber, blockIn, nextSlot}
+use Rattle.exam_rules.specs.Calls.{opened, openedNumber, openedT, openedEntries, openedStart, Finds, located, Fetches, Creates, appendsNumber, Appends, replacesNumber, Replaces, Lent, lent, wordsOf, filled, AppendsAll}
 use Rattle.exam_rules.specs.Maps.{Map, pieceOf, fileOf, pieceBy, fileBy, changed}
 use Rattle.exam_rules.specs.declared.Located.{Located}
 use Rattle.exam_rules.specs.declared.Made.{Made}
+use Rattle.exam_rules.specs.declared.Record.{Record}
+use Rattle.exam_rules.specs.declared.Filled.{Filled}
 use Rattle.exam_rules.specs.declared.Opened.{Opened}
 use Rattle.exam_rules.specs.declared.Opened.the-variants.{Done, Refused}
 use Rattle.block_rules.proofs.Accept.{where-nothing, where-one-answer, where-forgets}
 use Rattle.exam_rules.proofs.Opens.{opens-in, t-in, body-long, entries-many}
-use Rattle.exam_rules.proofs.Changes.{change-one-answer, changes-number, changes-none}
-use Rattle.exam_rules.proofs.Accept.{OpenTakes, open-takes, takes-open, FindTakes, find-takes, takes-find, FetchTakes, fetch-takes, takes-fetch, takes-create, AppendTakes, append-takes, takes-append, ReplaceTakes, replace-takes, takes-replace, opened-number, opened-done, fetches-number, CreateTakes, create-takes}
-use Rattle.exam_rules.proofs.Answered.{open-in-one-of, find-one-of, fetch-one-of, create-one-of, append-one-of, replace-one-of}
+use Rattle.exam_rules.proofs.Changes.{append-stopped, change-one-answer, changes-number, changes-none}
+use Rattle.exam_rules.proofs.Accept.{OpenTakes, open-takes, takes-open, FindTakes, find-takes, takes-find, FetchTakes, fetch-takes, takes-fetch, takes-create, AppendTakes, append-takes, takes-append, ReplaceTakes, replace-takes, takes-replace, opened-number, opened-done, fetches-number, CreateTakes, create-takes, AppendAllTakes, foretold, foretold-takes, takes-foretold}
+use Rattle.exam_rules.proofs.Answered.{open-in-one-of, find-one-of, fetch-one-of, create-one-of, append-one-of, append-all-one-of, replace-one-of}
 use Rattle.exam_rules.proofs.Holds.{Holds, holds-length, holds-parts, holds-opens, copied-holds}
 use Rattle.exam_rules.proofs.Pieces.{created-pieces, appended-pieces, block-fetched, piece-handed, piece-fetched, pieces-tell}
 use Rattle.exam_rules.proofs.Maps.{Fit, reads-by, map-reads, maps-whole, maps-piece, alike-holds, changed-at, changed-maps, changed-fit}
 use Rattle.exam_rules.proofs.Cut.{never-all-whole}
 use Rattle.exam_rules.proofs.Kept.{found-long, found-size, found-within, found-part, more-holds, more-opens, slot-kept, slot-new}
+use Rattle.exam_rules.proofs.Filling.{words-of, record-numbered, record-refused, record-outside, record-appended, appended-record, each-none, each-one, all-opened}
+use Rattle.exam_rules.proofs.Forgets.{all-forgets}
+use Rattle.exam_rules.proofs.Chain.{Goes, done, stops, went, goes-answers, all-fills, all-unopened, all-open, all-none, all-many, all-length}
+use Rattle.exam_rules.proofs.Staying.{read-fillable, holds-fillable, appended-fillable, it-went, Fillable, SlotsFit, Inside, goes-fillable, goes-keeps, goes-in, goes-sized, goes-foretold}
 use Rattle.exam_rules.proofs.Resized.{length-resized}
 use Rattle.exam_rules.proofs.Exchanged.{exchanged-holds, exchanged-opens, exchanged-length, same-slots, kept-beside, place-before, place-behind, slot-entry, slot-exchanged, freed-zero, beyond-stays}
 
@@ -74,6 +85,13 @@ pub replace-one-answer : {b : List ℕ} {l exam slot : ℕ} {words fcm dfcm benc
 replace-one-answer p q =
     let f = change-one-answer (p .file) (q .file) in
     (f .0, f .1, p .fcmLeft ∙ sym (q .fcmLeft), p .dfcmLeft ∙ sym (q .dfcmLeft), p .benchLeft ∙ sym (q .benchLeft))
+
+-- Of append_all's answer, of the file, of both tables and of the bench buffer, refused or not, the promise admits one value each.
+pub append-all-one-answer : {b : List ℕ} {l exam : ℕ} {records : List Record} {words fcm dfcm bench b₁ f₁ d₁ n₁ b₂ f₂ d₂ n₂ : List ℕ} {a₁ a₂ : Filled}
+    → AppendsAll b l exam records words fcm dfcm bench a₁ b₁ f₁ d₁ n₁ → AppendsAll b l exam records words fcm dfcm bench a₂ b₂ f₂ d₂ n₂
+    → (a₁ ≡ a₂) × (b₁ ≡ b₂) × (f₁ ≡ f₂) × (d₁ ≡ d₂) × (n₁ ≡ n₂)
+append-all-one-answer p q =
+    (p .answer ∙ sym (q .answer), p .fileLeft ∙ sym (q .fileLeft), p .fcmLeft ∙ sym (q .fcmLeft), p .dfcmLeft ∙ sym (q .dfcmLeft), p .benchLeft ∙ sym (q .benchLeft))
 
 -- ---- when each call answers 0
 
@@ -124,6 +142,29 @@ pub replace-accepts : {b : List ℕ} {l exam slot : ℕ} {words fcm dfcm bench b
     → (r .number ≡ 0) ↔ ReplaceTakes b l exam slot (length words) (length fcm) (length dfcm) (length bench)
 replace-accepts c = ((λ e. replace-takes _ _ _ _ _ _ _ _ (sym (changes-number (c .file)) ∙ e)), (λ k. changes-number (c .file) ∙ takes-replace _ _ _ _ _ _ _ _ k))
 
+-- Where the file opens, append_all answers what `foretold` finds record by record from what is given alone: the file's t, entries, next slot and length, the words,
+-- and the lengths of tables, buffer and bench buffer.
+pub append-all-answers : {b : List ℕ} {l exam : ℕ} {records : List Record} {words fcm dfcm bench b' f' d' bench' : List ℕ} {a : Filled} → Bytes b → SlotsFit records
+    → openedNumber (opened b l exam) ≡ 0 → AppendsAll b l exam records words fcm dfcm bench a b' f' d' bench'
+    → a
+    ≡ foretold words (fileIn (take l b) .t) (length fcm) (length dfcm) (length b) (length bench) (length (fileIn (take l b) .entries)) (nextSlot 0 (fileIn (take l b) .entries)) 0 l records
+append-all-answers {b} {l} {exam} h w e c =
+    let o = sym (opened-number b l exam) ∙ e in
+    let g = all-fills c o in
+    g .answer ∙ rw zero-add at (goes-foretold (g .goes) (read-fillable b l exam h o) w 0)
+
+-- Append_all answers 0 just where the file opens and each record has what it needs.
+pub append-all-accepts : {b : List ℕ} {l exam : ℕ} {records : List Record} {words fcm dfcm bench b' f' d' bench' : List ℕ} {a : Filled} → Bytes b → SlotsFit records
+    → AppendsAll b l exam records words fcm dfcm bench a b' f' d' bench' → (a .number ≡ 0) ↔ AppendAllTakes b l exam records words (length fcm) (length dfcm) (length bench)
+append-all-accepts {b} {l} {exam} {a = a} h w c =
+    let number : Filled → ℕ = λ x. x .number in (
+      (λ e.
+          let o = open-takes b l exam (all-open c (inl e)) in
+          let x = append-all-answers h w (open-accepts b l exam .1 o) c in
+          record { opens = o; takes = foretold-takes _ _ _ _ _ _ (rw (t-in (take l b)) (o .t)) _ _ 0 l _ (sym (ap number x) ∙ e) }),
+      (λ k. ap number (append-all-answers h w (open-accepts b l exam .1 (k .opens)) c) ∙ takes-foretold _ _ _ _ _ _ 0 (k .takes)),
+    )
+
 -- ---- every number is one of the call's list
 
 -- Create answers 0, 8, 7 or 3.
@@ -158,6 +199,11 @@ pub replace-numbers : {b : List ℕ} {l exam slot : ℕ} {words fcm dfcm bench b
     → List·Mem (r .number) (0 ∷ 4 ∷ 7 ∷ 8 ∷ 9 ∷ 10 ∷ 1 ∷ 2 ∷ 3 ∷ [])
 replace-numbers c = mem-cast (changes-number (c .file)) (replace-one-of _ _ _ _ _ _ _ _)
 
+-- Append_all answers 0, one of open's numbers, 15, 12, 11, 1, 2 or 3.
+pub append-all-numbers : {b : List ℕ} {l exam : ℕ} {records : List Record} {words fcm dfcm bench b' f' d' bench' : List ℕ} {a : Filled} → AppendsAll b l exam records words fcm dfcm bench a b' f' d' bench'
+    → List·Mem (a .number) (0 ∷ 4 ∷ 7 ∷ 8 ∷ 9 ∷ 15 ∷ 12 ∷ 11 ∷ 1 ∷ 2 ∷ 3 ∷ [])
+append-all-numbers c = append-all-one-of c
+
 -- ---- a file opens only for its own exam number
 
 -- Where open answers 0, the trailer's exam number is the one asked for, and not 0. (Find, fetch, append and replace open first.)
@@ -167,6 +213,11 @@ own-exam b l exam e = let k = open-accepts b l exam .0 e in (k .own, k .named)
 -- So one file opens for no two exam numbers.
 pub one-exam : (b : List ℕ) (l e₁ e₂ : ℕ) → openedNumber (opened b l e₁) ≡ 0 → openedNumber (opened b l e₂) ≡ 0 → e₁ ≡ e₂
 one-exam b l e₁ e₂ p q = sym (own-exam b l e₁ p .0) ∙ own-exam b l e₂ q .0
+
+-- Where append_all answers 0, or a map went in, the file is the exam's.
+pub append-all-own-exam : {b : List ℕ} {l exam : ℕ} {records : List Record} {words fcm dfcm bench b' f' d' bench' : List ℕ} {a : Filled} → AppendsAll b l exam records words fcm dfcm bench a b' f' d' bench'
+    → (a .number ≡ 0) ⊎ (0 < a .appended) → examIn (take l b) ≡ exam
+append-all-own-exam c h = open-takes _ _ _ (all-open c h) .own
 
 -- ---- what the tables held before plays no part
 
@@ -202,6 +253,20 @@ replace-forgets p q e g z =
       p .fcmLeft ∙ afterwards-new _ _ _ x ∙ sym (q .fcmLeft ∙ afterwards-new _ _ _ y),
       p .dfcmLeft ∙ afterwards-new _ _ _ x ∙ sym (q .dfcmLeft ∙ afterwards-new _ _ _ y),
       p .benchLeft ∙ rw (e, g) (sym (q .benchLeft)),
+    )
+
+-- Two runs of append_all, refused or not: the same answer, file and bench buffer; and where a map went in, equal tables.
+pub append-all-forgets : {b : List ℕ} {l exam : ℕ} {records : List Record} {words f₁ d₁ f₂ d₂ bench b₁ f₁' d₁' n₁ b₂ f₂' d₂' n₂ : List ℕ} {a₁ a₂ : Filled}
+    → AppendsAll b l exam records words f₁ d₁ bench a₁ b₁ f₁' d₁' n₁ → AppendsAll b l exam records words f₂ d₂ bench a₂ b₂ f₂' d₂' n₂ → length f₁ ≡ length f₂ → length d₁ ≡ length d₂
+    → (a₁ ≡ a₂) × (b₁ ≡ b₂) × (n₁ ≡ n₂) × (0 < a₁ .appended → (f₁' ≡ f₂') × (d₁' ≡ d₂'))
+append-all-forgets {b} {l} {exam} {records} {words} {f₁} {d₁} {f₂} {d₂} {bench} p q e g =
+    let x = all-forgets words l b bench f₁ d₁ f₂ d₂ e g exam records in (
+      p .answer ∙ x .0 ∙ sym (q .answer),
+      p .fileLeft ∙ x .1 ∙ sym (q .fileLeft),
+      p .benchLeft ∙ x .2 ∙ sym (q .benchLeft),
+      λ h.
+          let y = ap (λ (r : Filled × Lent). r .1) (x .3 (rw (p .answer) at h)) in
+          (p .fcmLeft ∙ ap (λ (r : Lent). r .fcm) y ∙ sym (q .fcmLeft), p .dfcmLeft ∙ ap (λ (r : Lent). r .dfcm) y ∙ sym (q .dfcmLeft)),
     )
 
 -- ---- files made by create, appends and replaces
@@ -424,6 +489,11 @@ refused-replace-changes-nothing {b} {l} {exam} {slot} {words} {fcm} {dfcm} {benc
       c .benchLeft ∙ afterwards-old _ _ _ k,
     )
 
+-- A refused append_all with none in changes nothing.
+pub refused-append-all-changes-nothing : {b : List ℕ} {l exam : ℕ} {records : List Record} {words fcm dfcm bench b' f' d' bench' : List ℕ} {a : Filled} → AppendsAll b l exam records words fcm dfcm bench a b' f' d' bench'
+    → (a .number ≡ 0 → ⊥) → a .appended ≡ 0 → (a .length ≡ 0) × (b' ≡ b) × (f' ≡ fcm) × (d' ≡ dfcm) × (bench' ≡ bench)
+refused-append-all-changes-nothing c h z = all-none c h z
+
 -- ---- an append keeps what was there
 
 -- An accepted append to any file that opens makes a file that opens for the same exam number: the same parts, with one block and one entry more.
@@ -449,6 +519,159 @@ append-fetches {b} {l} {exam} {slot} {words} h w v c e q lf ld enough =
     let n = slot-new h w c e in
     let reads = map-reads t (record { slot = slot; words = words }) (record { few = k .fewWords; wide = v }) in
     block-fetched t (block t words) (n .0) (n .1) (ap (λ (f : File). f .t) (holds-parts (more-holds h w c e))) reads q (lf ∙ k .fcmLong) (ld ∙ k .dfcmLong ∙ k .fcmLong) enough
+
+-- ---- append_all is append, one record after another
+
+-- With no record it changes nothing, and answers open's number, none in, and where that is 0 the length that was given.
+pub append-all-of-none : {b : List ℕ} {l exam : ℕ} {words fcm dfcm bench b' f' d' bench' : List ℕ} {a : Filled} → AppendsAll b l exam [] words fcm dfcm bench a b' f' d' bench'
+    → (a ≡ record { number = openInNumber b l exam; appended = 0; length = afterwards (openInNumber b l exam) l 0 }) × (b' ≡ b) × (f' ≡ fcm) × (d' ≡ dfcm) × (bench' ≡ bench)
+append-all-of-none {b} {l} {exam} {words} {fcm} {dfcm} {bench} c =
+    let n = openInNumber b l exam in
+    let s = lent b fcm dfcm bench in
+    either (eqb n 0)
+    (λ q.
+    let z = eqb-true n 0 q in
+    rw (c .answer, c .fileLeft, c .fcmLeft, c .dfcmLeft, c .benchLeft, all-opened l exam [] words s z ∙ each-none words 0 l s, z) (refl, refl, refl, refl, refl))
+    (λ q. all-unopened c (eqb-false n 0 q))
+
+-- With one record, within the words, it answers append's number and length for the record's words and leaves what append leaves, and answers one in where that is 0.
+pub append-all-of-one : {b : List ℕ} {l exam : ℕ} {r : Record} {words fcm dfcm bench b' f' d' bench' : List ℕ} {a : Filled} → r .first + r .count ≤ length words
+    → AppendsAll b l exam (r ∷ []) words fcm dfcm bench a b' f' d' bench'
+    → Appends b l exam (r .slot) (wordsOf r words) fcm dfcm bench (record { number = a .number; length = a .length }) b' f' d' bench' × (a .appended ≡ afterwards (a .number) 1 0)
+append-all-of-one {b} {l} {exam} {r} {words} {fcm} {dfcm} {bench} h c =
+    let n = openInNumber b l exam in
+    let s = lent b fcm dfcm bench in
+    either (eqb n 0)
+    (λ q.
+    let o = eqb-true n 0 q in
+    let e = all-opened l exam (r ∷ []) words s o ∙ each-one words r l s in
+    rw (c .answer, c .fileLeft, c .fcmLeft, c .dfcmLeft, c .benchLeft, e) (appended-record words r l s h o refl, refl))
+    (λ q.
+    let u = eqb-false n 0 q in
+    let x = all-unopened c u in
+    rw (x .0, x .1, x .2, x .3, x .4, afterwards-old {A = ℕ} n l 0 u, afterwards-old {A = ℕ} n 1 0 u) (append-stopped b l exam (r .slot) (wordsOf r words) fcm dfcm bench n (fails-here _ _ _ refl u) u, refl))
+
+-- Appends one after another, from a file of l bytes and what is lent on: for each record append is called with its slot and its words, on the file that the one
+-- before left. They end where no record is left, which answers 0; at a record that reaches beyond the words, which answers 15 and calls nothing; or at a refused
+-- append, with its number. Told are the number, how many went in, the length reached and what is left.
+pub data OneAfterAnother (exam : ℕ) (words : List ℕ) : List Record → (l : ℕ) → Lent → (number k l' : ℕ) → Lent → Type 0 where
+  no-more : {l : ℕ} {s : Lent} → OneAfterAnother exam words [] l s 0 0 l s
+  beyond : {r : Record} {rs : List Record} {l : ℕ} {s : Lent} → length words < r .first + r .count → OneAfterAnother exam words (r ∷ rs) l s 15 0 l s
+  refused : {r : Record} {rs : List Record} {l : ℕ} {s s' : Lent} {m : Made} → r .first + r .count ≤ length words
+      → Appends (s .file) l exam (r .slot) (wordsOf r words) (s .fcm) (s .dfcm) (s .bench) m (s' .file) (s' .fcm) (s' .dfcm) (s' .bench) → (m .number ≡ 0 → ⊥)
+      → OneAfterAnother exam words (r ∷ rs) l s (m .number) 0 l s'
+  went-in : {r : Record} {rs : List Record} {l : ℕ} {s s' s'' : Lent} {m : Made} {n k l' : ℕ} → r .first + r .count ≤ length words
+      → Appends (s .file) l exam (r .slot) (wordsOf r words) (s .fcm) (s .dfcm) (s .bench) m (s' .file) (s' .fcm) (s' .dfcm) (s' .bench) → m .number ≡ 0
+      → OneAfterAnother exam words rs (m .length) s' n k l' s'' → OneAfterAnother exam words (r ∷ rs) l s n (k + 1) l' s''
+
+they-go : {exam : ℕ} {words : List ℕ} {rs : List Record} {l n k l' : ℕ} {s s' : Lent} → OneAfterAnother exam words rs l s n k l' s' → Fillable (s .file) l exam → SlotsFit rs
+    → Goes words rs l s n k l' s'
+they-go no-more f w = done
+they-go {words = words} (beyond {r = r} {l = l} {s = s} h) f w =
+    stops (sym (ap (λ (p : Made × Lent). p .0 .number) (record-outside words r l s h)) ∙ record-numbered words r l s) (λ z. omega arith)
+they-go {exam} {words} (refused {r = r} {l = l} {s = s} {m = m} h c u) f w =
+    let e = record-appended words r l s h {exam = exam} (f .opens) c in
+    let n = ap (λ (p : Made × Lent). p .0 .number) e ∙ record-numbered words r l s in
+    rw (ap (λ (p : Made × Lent). p .1) (e ∙ record-refused words r l s (m .number) n u)) (stops n u)
+they-go {exam} {words} (went-in {r = r} {l = l} {s = s} h c z g) f (more w ws) = went (record-appended words r l s h {exam = exam} (f .opens) c) z (they-go g (appended-fillable f w c z) ws)
+
+are-appends : {words : List ℕ} {rs : List Record} {l n k l' : ℕ} {s s' : Lent} {exam : ℕ} → Goes words rs l s n k l' s' → Fillable (s .file) l exam → SlotsFit rs
+    → OneAfterAnother exam words rs l s n k l' s'
+are-appends done f w = no-more
+are-appends {words} {exam = exam} (stops {r = r} {l = l} {s = s} {n = n} e u) f w =
+    let x = record-refused words r l s n e u in
+    either (leb (r .first + r .count) (length words))
+    (λ q. let h = leb-true _ _ q in refused {m = record { number = n; length = 0 }} h (appended-record words r l s h (f .opens) (sym x)) u)
+    (λ q.
+    let h = leb-false _ _ q in
+    rw (ap (λ (p : Made × Lent). p .0 .number) (sym x ∙ record-outside words r l s h)) (beyond h))
+are-appends {words} {exam = exam} (went {r = r} {l = l} {s = s} e z g) f (more w ws) =
+    let i = it-went exam words r l s (f .opens) e z in
+    went-in (i .inside) (i .appends) z (are-appends g (appended-fillable f w (i .appends) z) ws)
+
+-- Where the file opens, what append_all answers and leaves is what appends one after another answer and leave.
+pub append-all-is-appends : {b : List ℕ} {l exam : ℕ} {records : List Record} {words fcm dfcm bench b' f' d' bench' : List ℕ} {a : Filled} {n k l' : ℕ} {s' : Lent} → Bytes b → SlotsFit records
+    → openedNumber (opened b l exam) ≡ 0 → OneAfterAnother exam words records l (lent b fcm dfcm bench) n k l' s' → AppendsAll b l exam records words fcm dfcm bench a b' f' d' bench'
+    → (a ≡ filled n k l') × (b' ≡ s' .file) × (f' ≡ s' .fcm) × (d' ≡ s' .dfcm) × (bench' ≡ s' .bench)
+append-all-is-appends {b} {l} {exam} {records} {words} {fcm} {dfcm} {bench} {k = k} h w e g c =
+    let o = sym (opened-number b l exam) ∙ e in
+    let q = all-opened l exam records words (lent b fcm dfcm bench) o ∙ goes-answers (they-go g (read-fillable b l exam h o) w) 0 in
+    rw (c .answer, c .fileLeft, c .fcmLeft, c .dfcmLeft, c .benchLeft, q, zero-add k) (refl, refl, refl, refl, refl)
+
+-- the appends that an answer comes from
+pub record ItsAppends (exam : ℕ) (words : List ℕ) (records : List Record) (l : ℕ) (s : Lent) (a : Filled) (s' : Lent) : Type 0 where
+  pub reached : ℕ
+  pub appends : OneAfterAnother exam words records l s (a .number) (a .appended) reached s'
+  pub answer : a ≡ filled (a .number) (a .appended) reached
+
+-- And there are such appends: with the number that it answers, and as many in.
+pub append-all-has-its-appends : {b : List ℕ} {l exam : ℕ} {records : List Record} {words fcm dfcm bench b' f' d' bench' : List ℕ} {a : Filled} → Bytes b → SlotsFit records
+    → openedNumber (opened b l exam) ≡ 0 → AppendsAll b l exam records words fcm dfcm bench a b' f' d' bench'
+    → ItsAppends exam words records l (lent b fcm dfcm bench) a (lent b' f' d' bench')
+append-all-has-its-appends {b} {l} {exam} h w e c =
+    let o = sym (opened-number b l exam) ∙ e in
+    let g = all-fills c o in
+    record { reached = g .reached; appends = are-appends (g .goes) (read-fillable b l exam h o) w; answer = g .answer }
+
+-- No more maps go in than there are records, and all where none is refused.
+pub append-all-counts : {b : List ℕ} {l exam : ℕ} {records : List Record} {words fcm dfcm bench b' f' d' bench' : List ℕ} {a : Filled} → AppendsAll b l exam records words fcm dfcm bench a b' f' d' bench'
+    → (a .appended ≤ length records) × (a .number ≡ 0 → a .appended ≡ length records)
+append-all-counts c = all-many c
+
+-- Where it answers 0, or a map went in, the file that is left opens for the same exam number.
+pub append-all-adds : {b : List ℕ} {l exam : ℕ} {records : List Record} {words fcm dfcm bench b' f' d' bench' : List ℕ} {a : Filled} → Bytes b → SlotsFit records
+    → AppendsAll b l exam records words fcm dfcm bench a b' f' d' bench' → (a .number ≡ 0) ⊎ (0 < a .appended) → openedNumber (opened b' (a .length) exam) ≡ 0
+append-all-adds {b} {l} {exam} {b' = b'} {a = a} h w c e =
+    let o = all-open c e in
+    let g = all-fills c o in
+    opened-number b' (a .length) exam ∙ rw (all-length c e g) (goes-fillable (g .goes) (read-fillable b l exam h o) w .opens)
+
+-- Every slot that find gave before it gives afterwards: the same entry, so the same place, and the same block.
+pub append-all-keeps-slots : {b : List ℕ} {l exam : ℕ} {records : List Record} {words fcm dfcm bench b' f' d' bench' : List ℕ} {a : Filled} → Bytes b → SlotsFit records
+    → AppendsAll b l exam records words fcm dfcm bench a b' f' d' bench' → (a .number ≡ 0) ⊎ (0 < a .appended) → (s : ℕ) → findNumber b l exam s ≡ 0
+    → (findNumber b' (a .length) exam s ≡ 0) × (entryOf s (fileIn (take (a .length) b')) ≡ entryOf s (fileIn (take l b))) × (blockIn b' (a .length) s ≡ blockIn b l s)
+append-all-keeps-slots {b} {l} {exam} h w c e s z =
+    let o = all-open c e in
+    let g = all-fills c o in
+    rw (all-length c e g) (goes-keeps (g .goes) (read-fillable b l exam h o) w s z)
+
+-- the map of a record, among the words lent
+abbrev pub mapOf : List ℕ → Record → Map
+mapOf words r = record { slot = r .slot; words = wordsOf r words }
+
+-- And what went in is fetched, word for word: from any file that opens, whoever made it, with tables of the same size.
+pub append-all-fetches : (first : List Record) (r : Record) (rest : List Record) {b : List ℕ} {l exam : ℕ} {words fcm dfcm bench b' f' d' bench' f₂ d₂ room f₂' d₂' room' : List ℕ} {a : Filled} {s : Unpacked}
+    → Bytes b → SlotsFit (first ++ r ∷ rest) → Words words → AppendsAll b l exam (first ++ r ∷ rest) words fcm dfcm bench a b' f' d' bench' → length first < a .appended
+    → Fetches b' (a .length) exam (r .slot) f₂ d₂ room s f₂' d₂' room' → length f₂ ≡ length fcm → length d₂ ≡ length dfcm → r .count ≤ length room
+    → (s ≡ record { number = 0; count = r .count }) × (room' ≡ over (wordsOf r words) room)
+append-all-fetches first r rest {b} {l} {exam} {words} {b' = b'} {room = room} {room' = room'} {a = a} {s = s} h w v c less q lf ld enough =
+    let t = fileIn (take l b) .t in
+    let some : (a .number ≡ 0) ⊎ (0 < a .appended) = inr (omega (arith, less)) in
+    let o = all-open c some in
+    let f = read-fillable b l exam h o in
+    let g = all-fills c o in
+    let i : Inside exam words r t b' (a .length) = rw (all-length c some g) (goes-in first r rest (g .goes) f w less) in
+    let sized = goes-sized (g .goes) f (omega (arith, less)) in
+    let reads = map-reads t (mapOf words r) (record { few = omega (arith, i .long, i .few); wide = words-of r words v }) in
+    let x = block-fetched t (block t (wordsOf r words)) (i .found) (i .is) (i .t-is) reads q (lf ∙ sized .0) (ld ∙ sized .1) (omega (arith, i .long, enough)) in
+    (x .0 ∙ ap (λ (n : ℕ). record { number = 0; count = n }) (i .long), x .1)
+
+made-of-all : {exam t : ℕ} {ms : List Map} {words : List ℕ} {rs : List Record} {l n k l' : ℕ} {s s' : Lent} → MadeOf exam t ms (s .file) l → SlotsFit rs → Words words
+    → OneAfterAnother exam words rs l s n k l' s' → MadeOf exam t (ms ++ map (mapOf words) (take k rs)) (s' .file) l'
+made-of-all {ms = ms} m w v no-more = rw (append-nil ms) m
+made-of-all {ms = ms} m w v (beyond h) = rw (append-nil ms) m
+made-of-all {ms = ms} m w v (refused h c u) = rw (append-nil ms, refused-append-changes-nothing c u .1) m
+made-of-all {exam} {t} {ms} {words} m (more w ws) v (went-in {r = r} {rs = rs} {k = k} h c z g) =
+    rw (add-one k, ← (append-assoc ms (mapOf words r ∷ []) (map (mapOf words) (take k rs)))) (made-of-all (grown m w (words-of r words v) c z) ws v g)
+
+-- A file made by create, appends and replaces, where append_all answers 0 or a map went in, is made of its maps and then one for each record that went in. So
+-- `made-fetches` speaks of each of them.
+pub made-append-all : {exam t : ℕ} {ms : List Map} {b : List ℕ} {l : ℕ} {records : List Record} {words fcm dfcm bench b' f' d' bench' : List ℕ} {a : Filled} → MadeOf exam t ms b l → SlotsFit records
+    → Words words → AppendsAll b l exam records words fcm dfcm bench a b' f' d' bench' → (a .number ≡ 0) ⊎ (0 < a .appended)
+    → MadeOf exam t (ms ++ map (mapOf words) (take (a .appended) records)) b' (a .length)
+made-append-all m w v c e =
+    let g = all-fills c (all-open c e) in
+    rw (all-length c e g) (made-of-all m w v (are-appends (g .goes) (holds-fillable (made-holds m)) w))
 
 -- ---- a replace exchanges one block and keeps all else
 

@@ -1,0 +1,3 @@
+pub mod Progress
+pub mod Lending
+pub mod Calls
