@@ -11,4 +11,13 @@ static inline double now_ns(void)
     return 1e9 * (double)t.tv_sec + (double)t.tv_nsec;
 }
 
+/* Keeps the time since start, if it is the shortest so far. */
+static inline void keep_shortest(double *shortest, double start)
+{
+    double taken = now_ns() - start;
+    if (*shortest == 0 || taken < *shortest) {
+        *shortest = taken;
+    }
+}
+
 #endif

@@ -74,14 +74,6 @@ static size_t make_file(uint8_t *to, int version)
     return number == COIL_DONE ? length : 0;
 }
 
-static void keep_shortest(double *shortest, double start)
-{
-    double taken = now_ns() - start;
-    if (*shortest == 0 || taken < *shortest) {
-        *shortest = taken;
-    }
-}
-
 /* One replace by a version of the first map, the packing alone, and memmove of the same bytes between the same
  * places of a twin. The trailer is written and not moved. Answers the new length, or 0. */
 static size_t one_round(size_t length, int version, times *t)

@@ -1,4 +1,4 @@
-# For run, before and replace, which source it from the top folder of the repository: what says that nothing can be
+# For run, before, replace and many, which source it from the top folder of the repository: what says that nothing can be
 # measured, the store's own code for this machine, and the place of a table in the page.
 
 . examples/watched.sh
@@ -74,4 +74,23 @@ write_page() { # MARKER FILE
         }
     ' "$page" >"$out/page.md"
     cp "$out/page.md" "$page"
+}
+
+# For a program bench/NAME.c that writes the rows of one table: measures, and puts the table into the page where asked.
+table_of() { # NAME [--write]
+    case ${2-} in '' | --write) ;; *) sed -n '2,3s/^# \{0,1\}//p' "bench/$1"; exit 2 ;; esac
+    must_have "$cc"
+    make_store . "$out/coil.o"
+    "$cc" "${strict[@]}" bench/{"$1",inputs,machine}.c "$out/coil.o" -lm -o "$out/$1"
+    "$out/$1" "$out/rows.md" || { say "no table is written"; exit 1; }
+    {
+        say_machine
+        echo
+        cat "$out/rows.md"
+    } >"$out/$1.md"
+    cat "$out/$1.md"
+    if [ "${2-}" = --write ]; then
+        write_page "$1" "$out/$1.md"
+        say "$page is written; the text beside its table is text: compare it with the new table"
+    fi
 }

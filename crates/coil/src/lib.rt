@@ -135,10 +135,10 @@ pub extern "C" fn coil_append_all(
 ) -> u32
     ensures { λ r. ⌜ CoilAppendsAll (now (file .entry)) length exam (now (records .entry)) (now (words .entry)) (now (fcm .entry)) (now (dfcm .entry)) (now (bench .entry)) r (now (file .exit)) (now (fcm .exit)) (now (dfcm .exit)) (now (bench .exit)) (now (appended .exit)) (now («new_length» .exit)) ⌝ }
 {
-    let answer = exams::append_all(file, length, exam, records, words, fcm, dfcm, bench);
-    *appended = answer.appended;
-    *new_length = answer.length;
-    answer.number
+    let filled = exams::append_all(file, length, exam, records, words, fcm, dfcm, bench);
+    *appended = filled.appended;
+    *new_length = filled.length;
+    filled.number
 }
 
 // Packs words as the block of a slot that is in the file, and puts it in the place of the slot's.

@@ -34,6 +34,9 @@ pub record Source : Type 0 where
   pub place : ℕ
   pub offset : ℕ
 
+abbrev pub source : {X : Type 0} → Lft → Share → RefT X → Source
+source κ q r = record { lifetime = κ; share = q; name = r .name; place = r .ptr .0; offset = r .ptr .1 }
+
 module _ (R : RattleType) (a : Source) (n : ℕ) where
   abbrev pub slice : GName → List (R .Denot) → RefT (List (R .Denot))
   slice name ys = record { ptr = (a .place, a .offset); name = name; now = ys }

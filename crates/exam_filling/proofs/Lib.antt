@@ -1,3 +1,4 @@
 pub mod Progress
+pub mod Operands
 pub mod Lending
 pub mod Calls

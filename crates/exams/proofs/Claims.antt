@@ -95,7 +95,7 @@ append-all-one-answer p q =
 
 -- ---- when each call answers 0
 
--- The number of open's answer is the one that find, fetch, append and replace refuse by.
+-- The number of open's answer is the one that find, fetch, append, append_all and replace refuse by.
 pub open-refuses-for-all : (b : List ℕ) (l exam : ℕ) → openedNumber (opened b l exam) ≡ openInNumber b l exam
 open-refuses-for-all b l exam = opened-number b l exam
 
@@ -206,7 +206,7 @@ append-all-numbers c = append-all-one-of c
 
 -- ---- a file opens only for its own exam number
 
--- Where open answers 0, the trailer's exam number is the one asked for, and not 0. (Find, fetch, append and replace open first.)
+-- Where open answers 0, the trailer's exam number is the one asked for, and not 0. (Find, fetch, append, append_all and replace open first.)
 pub own-exam : (b : List ℕ) (l exam : ℕ) → openedNumber (opened b l exam) ≡ 0 → (examIn (take l b) ≡ exam) × (0 < exam)
 own-exam b l exam e = let k = open-accepts b l exam .0 e in (k .own, k .named)
 

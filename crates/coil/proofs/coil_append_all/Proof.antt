@@ -19,7 +19,7 @@ use contract.Monad.{Fun, fact}
 use contract.Running.{givenOf, tables, tablesOf}
 use types.Kit.{Given, ‵, raw, _⊛_, some, later, _$_, _∵_, !, qed, move, keep, drop, use1, split, join, pick, group, rewrite, fsplit, fsplit3, fjoin3, feqL, feqI, suffices, frame, await, done}
 use types.Part.{agg, whole, sub, look-in}
-use types.Run.{look, init, store, forget, stop, hop, fld, from, load, addr, of-opd, and-then, no-more, assigns, land, returns, enter, alloc1, alloc0, params1, pass1, pass0, free1, free0}
+use types.Run.{look, init, store, forget, stop, hop, fld, from, addr, of-opd, and-then, no-more, assigns, land, returns, enter, alloc1, alloc0, params1, pass1, pass0, free1, free0}
 use sound.WpLaws.{fmOf, WpFn-mono}
 use denote.RattleType.{owns}
 use denote.Laws.{Is, shows}
@@ -45,6 +45,7 @@ use Rattle.exam_rules.specs.declared.Filled.{Filled}
 use Rattle.exam_rules.proofs.Record as record-row
 use Rattle.exam_rules.proofs.Filled as filled-row
 use Rattle.exam_rules.proofs.Filled.Laws as filled-laws
+use Rattle.exam_filling.proofs.Operands.{the-local, the-field}
 use Rattle.exam_filling.proofs.append_all as all
 use Rattle.exam_filling.proofs.append_all.Symbol as all-def
 use Rattle.exam_filling.proofs.append_all.Symbol.{name as #append-all}
@@ -177,8 +178,8 @@ module _ {M : Type 1} (𝓤 : URA M) (H : Heap 𝓤) (A : Atoms 𝓤) (W : Given
       ∷ MutRef (named 6) (κs .1 .1 .1 .1 .1 .1 .0) usize ∷ MutRef (named 7) (κs .1 .1 .1 .1 .1 .1 .1 .0) usize ∷ []) x vals) ∷ []) ∵
       split ! $ move ! (1 ∷ []) $ split ! $ move ! (1 ∷ []) $ split ! $ move ! (1 ∷ []) $ split ! $ move ! (1 ∷ []) $ split ! $ move ! (1 ∷ []) $ split ! $
       move ! (1 ∷ []) $ split ! $ move ! (1 ∷ []) $ split ! $
-      move ! (9 ∷ []) $ fsplit ! $ move ! (1 ∷ []) $ fsplit ! $ move ! (1 ∷ []) $ fsplit ! $ move ! (1 ∷ []) $ fsplit ! $ move ! (1 ∷ []) $ fsplit ! $ move ! (1 ∷
-      []) $ fsplit ! $ move ! (1 ∷ []) $ fsplit ! $ move ! (1 ∷ []) $ fsplit ! $ move ! (1 ∷ []) $ fsplit ! $ move ! (1 ∷ []) $ fsplit ! $
+      move ! (9 ∷ []) $ fsplit ! $ move ! (1 ∷ []) $ fsplit ! $ move ! (1 ∷ []) $ fsplit ! $ move ! (1 ∷ []) $ fsplit ! $ move ! (1 ∷ []) $ fsplit ! $
+      move ! (1 ∷ []) $ fsplit ! $ move ! (1 ∷ []) $ fsplit ! $ move ! (1 ∷ []) $ fsplit ! $ move ! (1 ∷ []) $ fsplit ! $ move ! (1 ∷ []) $ fsplit ! $
       -- [new_length; true; appended; bench; dfcm; fcm; words; records; exam; length; file; then their tokens likewise]
       keep ! (10 ∷ 9 ∷ 8 ∷ 7 ∷ 6 ∷ 5 ∷ 4 ∷ 3 ∷ 1 ∷ 19 ∷ 18 ∷ 17 ∷ 16 ∷ 15 ∷ 14 ∷ 12 ∷ 2 ∷ 13 ∷ 0 ∷ 11 ∷ []) $ group ! 9 $ move ! (1 ∷ 2 ∷ 3 ∷ 4 ∷ 5 ∷ 6 ∷ 7 ∷ []) $
       group ! 7 $ join ! $
@@ -186,7 +187,9 @@ module _ {M : Type 1} (𝓤 : URA M) (H : Heap 𝓤) (A : Atoms 𝓤) (W : Given
       -- [new_length's value and borrow; appended's; what `append_all` is passed; the tokens of the two]
       enter ! (𝓣 .C) (𝓣 .Λ) code.function (wordsVal file ∷ vint w64 l ∷ vint w64 exam ∷ recordsVal ∷ wordsVal words ∷ wordsVal fcm ∷ wordsVal dfcm ∷
       wordsVal bench ∷ numberVal appended ∷ numberVal newLength ∷ []) _ $
-      alloc1 ! (λ l₀. alloc1 ! (λ l₁. alloc1 ! (λ l₂. alloc1 ! (λ l₃. alloc1 ! (λ l₄. alloc1 ! (λ l₅. alloc1 ! (λ l₆. alloc1 ! (λ l₇. alloc1 ! (λ l₈. alloc1 ! (λ l₉. alloc1 ! (λ l₁₀. alloc1 ! (λ l₁₁. alloc1 ! (λ l₁₂. alloc1 ! (λ l₁₃. alloc1 ! (λ l₁₄. alloc1 ! (λ l₁₅. alloc1 ! (λ l₁₆. alloc1 ! (λ l₁₇. alloc1 ! (λ l₁₈. alloc1 ! (λ l₁₉. alloc0 ! $ params1 ! $
+      alloc1 ! (λ l₀. alloc1 ! (λ l₁. alloc1 ! (λ l₂. alloc1 ! (λ l₃. alloc1 ! (λ l₄. alloc1 ! (λ l₅. alloc1 ! (λ l₆. alloc1 ! (λ l₇. alloc1 ! (λ l₈.
+      alloc1 ! (λ l₉. alloc1 ! (λ l₁₀. alloc1 ! (λ l₁₁. alloc1 ! (λ l₁₂. alloc1 ! (λ l₁₃. alloc1 ! (λ l₁₄. alloc1 ! (λ l₁₅. alloc1 ! (λ l₁₆. alloc1 ! (λ l₁₇.
+      alloc1 ! (λ l₁₈. alloc1 ! (λ l₁₉. alloc0 ! $ params1 ! $
       pass1 ! (init ! (spot 0 1) refl (tt, (tt, (record { fits = file-fits .0 }, tt)))) $ pass1 ! (init ! (spot 0 2) refl (tt, record { fits = l-fits })) $
       pass1 ! (init ! (spot 0 3) refl (tt, record { fits = exam-fits })) $ pass1 ! (init ! (spot 0 4) refl (tt, (tt, (record { fits = records-fit .0 }, tt)))) $
       pass1 ! (init ! (spot 0 5) refl (tt, (tt, (record { fits = words-fit .0 }, tt)))) $
@@ -196,27 +199,25 @@ module _ {M : Type 1} (𝓤 : URA M) (H : Heap 𝓤) (A : Atoms 𝓤) (W : Given
       pass1 ! (init ! (spot 0 10) refl (tt, tt)) $ pass0 ! $
       assigns ! (addr ! (from ! (fld ! refl (hop ! (look-in ! (spot 0 1) (sub ! 0 refl (whole !))) (stop !))))) (from ! (stop !))
       (init ! (spot 0 12) refl (tt, tt)) $
-      assigns ! (agg ! (and-then ! (load ! (from ! (stop !)) (look ! (spot 0 12) refl)) (and-then ! (load ! (from ! (fld ! refl (stop !))) (look-in ! (spot 0 1)
-      (sub ! 1 refl (whole !)))) (no-more !)))) (from ! (stop !)) (init ! (spot 0 13) refl (tt, (tt, (record { fits = file-fits .0 }, tt)))) $
+      assigns ! (agg ! (and-then ! (the-local ! (spot 0 12) refl) (and-then ! (the-field ! (spot 0 1) 1 refl refl (whole !)) (no-more !)))) (from ! (stop !))
+      (init ! (spot 0 13) refl (tt, (tt, (record { fits = file-fits .0 }, tt)))) $
       assigns ! (addr ! (from ! (fld ! refl (hop ! (look-in ! (spot 0 6) (sub ! 0 refl (whole !))) (stop !))))) (from ! (stop !))
       (init ! (spot 0 14) refl (tt, tt)) $
-      assigns ! (agg ! (and-then ! (load ! (from ! (stop !)) (look ! (spot 0 14) refl)) (and-then ! (load ! (from ! (fld ! refl (stop !))) (look-in ! (spot 0 6)
-      (sub ! 1 refl (whole !)))) (no-more !)))) (from ! (stop !)) (init ! (spot 0 15) refl (tt, (tt, (record { fits = fcm-fits .0 }, tt)))) $
+      assigns ! (agg ! (and-then ! (the-local ! (spot 0 14) refl) (and-then ! (the-field ! (spot 0 6) 1 refl refl (whole !)) (no-more !)))) (from ! (stop !))
+      (init ! (spot 0 15) refl (tt, (tt, (record { fits = fcm-fits .0 }, tt)))) $
       assigns ! (addr ! (from ! (fld ! refl (hop ! (look-in ! (spot 0 7) (sub ! 0 refl (whole !))) (stop !))))) (from ! (stop !))
       (init ! (spot 0 16) refl (tt, tt)) $
-      assigns ! (agg ! (and-then ! (load ! (from ! (stop !)) (look ! (spot 0 16) refl)) (and-then ! (load ! (from ! (fld ! refl (stop !))) (look-in ! (spot 0 7)
-      (sub ! 1 refl (whole !)))) (no-more !)))) (from ! (stop !)) (init ! (spot 0 17) refl (tt, (tt, (record { fits = dfcm-fits .0 }, tt)))) $
+      assigns ! (agg ! (and-then ! (the-local ! (spot 0 16) refl) (and-then ! (the-field ! (spot 0 7) 1 refl refl (whole !)) (no-more !)))) (from ! (stop !))
+      (init ! (spot 0 17) refl (tt, (tt, (record { fits = dfcm-fits .0 }, tt)))) $
       assigns ! (addr ! (from ! (fld ! refl (hop ! (look-in ! (spot 0 8) (sub ! 0 refl (whole !))) (stop !))))) (from ! (stop !))
       (init ! (spot 0 18) refl (tt, tt)) $
-      assigns ! (agg ! (and-then ! (load ! (from ! (stop !)) (look ! (spot 0 18) refl)) (and-then ! (load ! (from ! (fld ! refl (stop !))) (look-in ! (spot 0 8)
-      (sub ! 1 refl (whole !)))) (no-more !)))) (from ! (stop !)) (init ! (spot 0 19) refl (tt, (tt, (record { fits = bench-fits .0 }, tt)))) $
+      assigns ! (agg ! (and-then ! (the-local ! (spot 0 18) refl) (and-then ! (the-field ! (spot 0 8) 1 refl refl (whole !)) (no-more !)))) (from ! (stop !))
+      (init ! (spot 0 19) refl (tt, (tt, (record { fits = bench-fits .0 }, tt)))) $
       move ! (44 ∷ []) $
       use1 W (raw (AppendAll 𝓤 H A mem run .pre to-all)) (qed W (raw (onEntry 𝓤 H A all.signature κs-all qs-all args-all vals-all) ∷ []) ∵ frame ! $ done !) $
-      calls-at ! (fmOf 𝓤 H (W .laws) 𝓣) (AppendAll 𝓤 H A mem run) known to-all (and-then ! (load ! (from ! (stop !)) (look ! (spot 1 13) refl))
-      (and-then ! (load ! (from ! (stop !)) (look ! (spot 1 2) refl)) (and-then ! (load ! (from ! (stop !)) (look ! (spot 1 3) refl))
-      (and-then ! (load ! (from ! (stop !)) (look ! (spot 1 4) refl)) (and-then ! (load ! (from ! (stop !)) (look ! (spot 1 5) refl))
-      (and-then ! (load ! (from ! (stop !)) (look ! (spot 1 15) refl)) (and-then ! (load ! (from ! (stop !)) (look ! (spot 1 17) refl))
-      (and-then ! (load ! (from ! (stop !)) (look ! (spot 1 19) refl)) (no-more !))))))))) (λ w.
+      calls-at ! (fmOf 𝓤 H (W .laws) 𝓣) (AppendAll 𝓤 H A mem run) known to-all (and-then ! (the-local ! (spot 1 13) refl) (and-then ! (the-local ! (spot 1 2) refl)
+      (and-then ! (the-local ! (spot 1 3) refl) (and-then ! (the-local ! (spot 1 4) refl) (and-then ! (the-local ! (spot 1 5) refl)
+      (and-then ! (the-local ! (spot 1 15) refl) (and-then ! (the-local ! (spot 1 17) refl) (and-then ! (the-local ! (spot 1 19) refl) (no-more !))))))))) (λ w.
       use1 W (later (some (λ (r : Filled). ((‵ (flft (κs .0) (qs .0)) ⊛ ‵ (flft (κs .1 .0) (qs .1 .0)) ⊛ ‵ (flft (κs .1 .1 .0) (qs .1 .1 .0)) ⊛
       ‵ (flft (κs .1 .1 .1 .0) (qs .1 .1 .1 .0)) ⊛ ‵ (flft (κs .1 .1 .1 .1 .0) (qs .1 .1 .1 .1 .0)) ⊛ ‵ (flft (κs .1 .1 .1 .1 .1 .0) (qs .1 .1 .1 .1 .1 .0)) ⊛
       ‵ ftrue) ⊛ ‵ (filled-row.the-row .own r (w ∷ []))) ⊛ raw (ensured 𝓤 H A all.ended (all.clauses 𝓤 H A mem run) κs-all args-all tt r)))) (id⊢ 𝓤 _) $
@@ -237,21 +238,21 @@ module _ {M : Type 1} (𝓤 : URA M) (H : Heap 𝓤) (A : Atoms 𝓤) (W : Given
       move ! (49 ∷ 50 ∷ 51 ∷ []) $
       opens ! tt usize {h = appended .now} (appended .ptr .0) (appended .ptr .1) (λ vs. spelt ! usize (Is usize) (shows 𝓤 H A usize) (uint-vals w64)
       (uint-tells w64) fullShare (appended .now) vs (appended .ptr .0) (appended .ptr .1) $
-      assigns ! (of-opd ! (load ! (from ! (fld ! refl (stop !))) (look-in ! (spot 12 11) (sub ! 1 refl (whole !))))) (from ! (hop ! (look ! (spot 12 9) refl)
-      (stop !))) (store ! 0 refl (tt, record { fits = LL.owed filled-row.the-type filled-laws.the-laws r _ is .1 .0 .1 })) $
+      assigns ! (of-opd ! (the-field ! (spot 12 11) 1 refl refl (whole !))) (from ! (hop ! (look ! (spot 12 9) refl) (stop !)))
+      (store ! 0 refl (tt, record { fits = LL.owed filled-row.the-type filled-laws.the-laws r _ is .1 .0 .1 })) $
       move ! (1 ∷ []) $ drop ! $ owned ! usize (Is usize) (uint-makes 𝓤 H A W w64)
       (r .appended) _ (refl, LL.owed filled-row.the-type filled-laws.the-laws r _ is .1 .0 .1) $ move ! (1 ∷ 0 ∷ []) $
       closes ! tt usize (r .appended) (vint w64 (r .appended) ∷ []) (appended .ptr .0) (appended .ptr .1) $
       move ! (50 ∷ 51 ∷ 52 ∷ []) $
       opens ! tt usize {h = newLength .now} (newLength .ptr .0) (newLength .ptr .1) (λ us. spelt ! usize (Is usize) (shows 𝓤 H A usize) (uint-vals w64)
       (uint-tells w64) fullShare (newLength .now) us (newLength .ptr .0) (newLength .ptr .1) $
-      assigns ! (of-opd ! (load ! (from ! (fld ! refl (stop !))) (look-in ! (spot 15 11) (sub ! 2 refl (whole !))))) (from ! (hop ! (look ! (spot 15 10) refl)
-      (stop !))) (store ! 0 refl (tt, record { fits = LL.owed filled-row.the-type filled-laws.the-laws r _ is .1 .1 .0 .1 })) $
+      assigns ! (of-opd ! (the-field ! (spot 15 11) 2 refl refl (whole !))) (from ! (hop ! (look ! (spot 15 10) refl) (stop !)))
+      (store ! 0 refl (tt, record { fits = LL.owed filled-row.the-type filled-laws.the-laws r _ is .1 .1 .0 .1 })) $
       move ! (1 ∷ []) $ drop ! $ owned ! usize (Is usize) (uint-makes 𝓤 H A W w64)
       (r .length) _ (refl, LL.owed filled-row.the-type filled-laws.the-laws r _ is .1 .1 .0 .1) $ move ! (1 ∷ 0 ∷ []) $
       closes ! tt usize (r .length) (vint w64 (r .length) ∷ []) (newLength .ptr .0) (newLength .ptr .1) $
       -- [new_length's value, borrow and token; appended's; the answer; the tokens; bench's last list; true; dfcm's; fcm's; file's; the locals]
-      assigns ! (of-opd ! (load ! (from ! (fld ! refl (stop !))) (look-in ! (spot 13 11) (sub ! 0 refl (whole !))))) (from ! (stop !))
+      assigns ! (of-opd ! (the-field ! (spot 13 11) 0 refl refl (whole !))) (from ! (stop !))
       (init ! (spot 13 0) refl (tt, record { fits = LL.owed filled-row.the-type filled-laws.the-laws r _ is .0 .1 })) $
       returns ! (look ! (spot 13 0) refl) $ forget ! (spot 13 0) refl $ forget ! (spot 13 1) refl $ forget ! (spot 13 2) refl $ forget ! (spot 13 3) refl $
       forget ! (spot 13 4) refl $ forget ! (spot 13 5) refl $ forget ! (spot 13 6) refl $ forget ! (spot 13 7) refl $ forget ! (spot 13 8) refl $
@@ -279,7 +280,25 @@ module _ {M : Type 1} (𝓤 : URA M) (H : Heap 𝓤) (A : Atoms 𝓤) (W : Given
       (coil-all.clauses 𝓤 H A mem run)
   walks 𝓣 known = walked 𝓤 H A coil-all.ended stayed (coil-all.clauses 𝓤 H A mem run) (WpFn 𝓤 H (𝓣 .C) (𝓣 .Λ) code.function)
       (λ κs. (slice-vals, (uint-vals w64, (uint-vals w64, (slice-vals, (slice-vals, (slice-vals, (slice-vals, (slice-vals, (ptr-vals, (ptr-vals, tt)))))))))))
-      (λ κs. (mut-slice-tells (named 0) (κs .0) u8, (uint-tells w64, (uint-tells w64, (shr-slice-tells (named 1) (κs .1 .0) record-row.the-row, (shr-slice-tells (named 2) (κs .1 .1 .0) u64, (mut-slice-tells (named 3) (κs .1 .1 .1 .0) u64, (mut-slice-tells (named 4) (κs .1 .1 .1 .1 .0) u64, (mut-slice-tells (named 5) (κs .1 .1 .1 .1 .1 .0) u8, (mut-tells (named 6) (κs .1 .1 .1 .1 .1 .1 .0) usize, (mut-tells (named 7) (κs .1 .1 .1 .1 .1 .1 .1 .0) usize, tt)))))))))))
+      (λ κs. (
+        mut-slice-tells (named 0) (κs .0) u8,
+        (
+          uint-tells w64,
+          (
+            uint-tells w64,
+            (
+              shr-slice-tells (named 1) (κs .1 .0) record-row.the-row,
+              (
+                shr-slice-tells (named 2) (κs .1 .1 .0) u64,
+                (
+                  mut-slice-tells (named 3) (κs .1 .1 .1 .0) u64,
+                  (mut-slice-tells (named 4) (κs .1 .1 .1 .1 .0) u64, (mut-slice-tells (named 5) (κs .1 .1 .1 .1 .1 .0) u8, (mut-tells (named 6) (κs .1 .1 .1 .1 .1 .1 .0) usize, (mut-tells (named 7) (κs .1 .1 .1 .1 .1 .1 .1 .0) usize, tt)))),
+                ),
+              ),
+            ),
+          ),
+        ),
+      ))
       (λ κs qs bounds x g are.
       via 𝓤 _ (fst∗ 𝓤 _ (emp 𝓤))
       (walk 𝓤 H A W mem run κs qs x 𝓣 known (are .1 .0 .1) (are .1 .1 .0 .1) (are .0 .0 .1) (are .1 .1 .1 .0 .0 .1) (are .1 .1 .1 .1 .0 .0 .1)

@@ -66,7 +66,8 @@ use Rattle.exam_records.proofs.step.Symbol as step-def
 use Rattle.exam_records.proofs.step.Symbol.{name as #step}
 use Rattle.exam_records.proofs.step.Met as step-thm
 use Rattle.exam_filling.proofs.Progress.{none, answer, finish, over, Turned, turned, begins, started}
-use Rattle.exam_filling.proofs.Lending.{Source}
+use Rattle.exam_filling.proofs.Operands.{the-local, the-field}
+use Rattle.exam_filling.proofs.Lending.{Source, source}
 use Rattle.exam_filling.proofs.Calls.{recordVal, progressVal, Begin, Step, Same, Rooms, Sources, Names, All, to-step, Rest, asks, Stepped, answers, to-begin, FileOurs, FileKept, asks-begin, answers-begin}
 use Rattle.exam_filling.proofs.append_all.Key.{name as #append-all}
 use Rattle.exam_filling.proofs.append_all as all
@@ -221,8 +222,8 @@ module _ {M : Type 1} (𝓤 : URA M) (H : Heap 𝓤) (A : Atoms 𝓤) (W : Given
       qed W (‵ (Lents s) ∷ ‵ (token (a .records)) ∷ ‵ Own ∷ []) ∵
       suffices ! _ (ends-at 𝓤 H A all.ended stayed (all.clauses 𝓤 H A mem run) W bound (filledVal r) r (s .file, (tt, (tt, (tt, (tt, (s .fcm, (s .dfcm, (s .bench, tt))))))))
       (same .file, (tt, (tt, (tt, (tt, (same .fcm, (same .dfcm, (same .bench, tt))))))))) $ says ! (appends-all e) $
-      fsplit ! $ fsplit ! $ move ! (2 ∷ []) $ fsplit ! $ fsplit ! $ move ! (2 ∷ []) $ fsplit ! $ fsplit ! $ move ! (2 ∷ []) $ fsplit ! $ fsplit ! $ move ! (2 ∷
-      []) $ fsplit ! $
+      fsplit ! $ fsplit ! $ move ! (2 ∷ []) $ fsplit ! $ fsplit ! $ move ! (2 ∷ []) $ fsplit ! $ fsplit ! $ move ! (2 ∷ []) $ fsplit ! $ fsplit ! $
+      move ! (2 ∷ []) $ fsplit ! $
       owned ! u64 (Is u64) (uint-makes 𝓤 H A W w64) exam _ (refl, exam-fits) $ owned ! usize (Is usize) (uint-makes 𝓤 H A W w64) l _ (refl, l-fits) $ nothing ! $
       nothing ! $
       -- [true; true; length; exam; words and its token; bench; dfcm; fcm; file; records's token; records]
@@ -237,13 +238,13 @@ module _ {M : Type 1} (𝓤 : URA M) (H : Heap 𝓤) (A : Atoms 𝓤) (W : Given
       ShrSlice (named 2) (a .words .lifetime) u64 ∷ MutSlice (named 3) (a .fcm .lifetime) u64 ∷ MutSlice (named 4) (a .dfcm .lifetime) u64 ∷
       MutSlice (named 5) (a .bench .lifetime) u8 ∷ []) args vals) ∷ []) ∵
       split ! $ move ! (1 ∷ []) $ split ! $ move ! (1 ∷ []) $ split ! $ move ! (1 ∷ []) $ split ! $ move ! (1 ∷ []) $ split ! $ move ! (1 ∷ []) $ split ! $
-      move ! (7 ∷ []) $ fsplit ! $ move ! (1 ∷ []) $ fsplit ! $ move ! (1 ∷ []) $ fsplit ! $ move ! (1 ∷ []) $ fsplit ! $ move ! (1 ∷ []) $ fsplit ! $ move ! (1 ∷
-      []) $ fsplit ! $ move ! (1 ∷ []) $ fsplit ! $ move ! (1 ∷ []) $ fsplit ! $
+      move ! (7 ∷ []) $ fsplit ! $ move ! (1 ∷ []) $ fsplit ! $ move ! (1 ∷ []) $ fsplit ! $ move ! (1 ∷ []) $ fsplit ! $ move ! (1 ∷ []) $ fsplit ! $
+      move ! (1 ∷ []) $ fsplit ! $ move ! (1 ∷ []) $ fsplit ! $ move ! (1 ∷ []) $ fsplit ! $
       -- [bench; true; dfcm; fcm; words; records; exam; length; file; bench's token; true; dfcm's; fcm's; words's; records's; file's]
       move ! (5 ∷ []) $ use1 W (‵ Own ⊛ ‵ Own) (shr-slice-copy 𝓤 H A W (named 1) (a .records .lifetime) record-row.the-row .twice recordsHeld (recordsVal ∷ [])) $
       split ! $ fsplit ! $ drop ! $ fsplit ! $ drop ! $
-      keep ! (9 ∷ 16 ∷ 5 ∷ 13 ∷ 4 ∷ 12 ∷ 2 ∷ 10 ∷ 6 ∷ 14 ∷ 15 ∷ 0 ∷ 1 ∷ []) $ fjoin ! $ move ! (1 ∷ 2 ∷ []) $ fjoin ! $ move ! (2 ∷ 3 ∷ []) $ fjoin ! $ move ! (3 ∷
-      4 ∷ []) $ fjoin ! $ move ! (3 ∷ 2 ∷ 1 ∷ 0 ∷ []) $ group ! 6 $ done !
+      keep ! (9 ∷ 16 ∷ 5 ∷ 13 ∷ 4 ∷ 12 ∷ 2 ∷ 10 ∷ 6 ∷ 14 ∷ 15 ∷ 0 ∷ 1 ∷ []) $ fjoin ! $ move ! (1 ∷ 2 ∷ []) $ fjoin ! $ move ! (2 ∷ 3 ∷ []) $ fjoin ! $
+      move ! (3 ∷ 4 ∷ []) $ fjoin ! $ move ! (3 ∷ 2 ∷ 1 ∷ 0 ∷ []) $ group ! 6 $ done !
 
   module _ (𝓣 : Tables 𝓤 H) (known : Triple 𝓤 (𝓣 .C #step) (Step 𝓤 H A mem run)) (records-fit : Room record-row.the-row (length rs)) (rooms : Rooms s₀)
       (l-fits : l < 2 ^ 64) (exam-fits : exam < 2 ^ 64) (l₀ l₁ l₂ l₃ l₄ l₅ l₆ l₇ l₈ l₉ l₁₀ l₁₁ l₁₂ l₁₃ l₁₄ l₁₅ l₁₆ l₁₇ l₁₈ l₁₉ l₂₀ l₂₁ l₂₂ l₂₃ l₂₄ : ℕ) where
@@ -296,13 +297,12 @@ module _ {M : Type 1} (𝓤 : URA M) (H : Heap 𝓤) (A : Atoms 𝓤) (W : Given
     ends : (t : State words rs l exam s₀) → ltb (t .p .appended) (t .p .stop) ≡ false → Sq W (At t) (runs C Λ Locals body.turn-1 (anyQ (TurnedTo t)))
     unfolding afterTurn
     ends t past =
-        assigns ! (bin ! (load ! (from ! (fld ! refl (stop !))) (look-in ! (spot 4 9) (sub ! 1 refl (whole !)))) (load ! (from ! (fld ! refl (stop !)))
-        (look-in ! (spot 4 9) (sub ! 3 refl (whole !)))) tt) (from ! (stop !)) (init ! (spot 4 13) refl (tt, tt)) $
+        assigns ! (bin ! (the-field ! (spot 4 9) 1 refl refl (whole !)) (the-field ! (spot 4 9) 3 refl refl (whole !)) tt) (from ! (stop !))
+        (init ! (spot 4 13) refl (tt, tt)) $
         rewrite ! (spot 4 13) (λ (z : Bool). ‵ (fat fullShare tyBool l₁₃ 0 (vbool z))) past refl $
-        leaves-loop ! (load ! (from ! (stop !)) (look ! (spot 4 13) refl)) $ exec ! C Λ Locals body.t-6 (atRet Locals Post) $
-        assigns ! (agg ! (and-then ! (load ! (from ! (fld ! refl (stop !))) (look-in ! (spot 4 9) (sub ! 0 refl (whole !))))
-        (and-then ! (load ! (from ! (fld ! refl (stop !))) (look-in ! (spot 4 9) (sub ! 1 refl (whole !)))) (and-then ! (load ! (from ! (fld ! refl (stop !)))
-        (look-in ! (spot 4 9) (sub ! 2 refl (whole !)))) (no-more !))))) (from ! (stop !))
+        leaves-loop ! (the-local ! (spot 4 13) refl) $ exec ! C Λ Locals body.t-6 (atRet Locals Post) $
+        assigns ! (agg ! (and-then ! (the-field ! (spot 4 9) 0 refl refl (whole !)) (and-then ! (the-field ! (spot 4 9) 1 refl refl (whole !))
+        (and-then ! (the-field ! (spot 4 9) 2 refl refl (whole !)) (no-more !))))) (from ! (stop !))
         (init ! (spot 4 0) refl (LL.lawful filled-row.the-type filled-laws.the-laws 𝓤 H A W .typed (answer (t .p)) _ is .0)) $
         returns ! (look ! (spot 4 0) refl) $ forget ! (spot 4 13) refl $ forget ! (spot 4 9) refl $ forget ! (spot 4 8) refl $ forget ! (spot 4 7) refl $
         forget ! (spot 4 6) refl $ forget ! (spot 4 5) refl $ forget ! (spot 4 4) refl $ forget ! (spot 4 3) refl $ forget ! (spot 4 2) refl $
@@ -332,6 +332,13 @@ module _ {M : Type 1} (𝓤 : URA M) (H : Heap 𝓤) (A : Atoms 𝓤) (W : Given
       spelled : (p : Progress) (w : Val) → Is progress-row.the-row p (w ∷ []) → w ∷ [] ≡ progressVal p ∷ []
       spelled p w is = LL.tells progress-row.the-type progress-laws.the-laws p (w ∷ []) is
 
+      -- what `step` is passed, what is kept meanwhile, and what is known of its answer
+      abbrev passed : Names → Step 𝓤 H A mem run .Ghost
+      passed x = to-step a words s₀ 𝓤 H A W mem run rooms exam exam-fits (t .p) item (t .s) (t .same) x
+
+      abbrev Meanwhile : Names → Fml
+      Meanwhile x = Rest a words s₀ 𝓤 H A W mem run rooms exam exam-fits (t .p) item (t .s) (t .same) x
+
       abbrev Known : Progress × Lent → Type 0
       Known n = Stepped a words s₀ 𝓤 H A W mem run rooms exam exam-fits (t .p) item (t .s) (t .same) n
 
@@ -353,15 +360,14 @@ module _ {M : Type 1} (𝓤 : URA M) (H : Heap 𝓤) (A : Atoms 𝓤) (W : Given
       turn : Sq W (At t) (runs C Λ Locals body.turn-1 (anyQ (TurnedTo t)))
       unfolding afterTurn
       turn =
-          assigns ! (bin ! (load ! (from ! (fld ! refl (stop !))) (look-in ! (spot 4 9) (sub ! 1 refl (whole !)))) (load ! (from ! (fld ! refl (stop !)))
-          (look-in ! (spot 4 9) (sub ! 3 refl (whole !)))) tt) (from ! (stop !)) (init ! (spot 4 13) refl (tt, tt)) $
+          assigns ! (bin ! (the-field ! (spot 4 9) 1 refl refl (whole !)) (the-field ! (spot 4 9) 3 refl refl (whole !)) tt) (from ! (stop !))
+          (init ! (spot 4 13) refl (tt, tt)) $
           rewrite ! (spot 4 13) (λ (z : Bool). ‵ (fat fullShare tyBool l₁₃ 0 (vbool z))) less refl $
-          stays ! (load ! (from ! (stop !)) (look ! (spot 4 13) refl)) $
+          stays ! (the-local ! (spot 4 13) refl) $
           -- the record, by value
-          assigns ! (bin ! (load ! (from ! (fld ! refl (stop !))) (look-in ! (spot 4 9) (sub ! 1 refl (whole !)))) (lit ! tt) (record { fits = place-fits }))
-          (from ! (stop !)) (init ! (spot 4 14) refl (tt, record { fits = place-fits })) $
-          assigns ! (bin ! (load ! (from ! (fld ! refl (stop !))) (look-in ! (spot 4 4) (sub ! 0 refl (whole !)))) (load ! (from ! (stop !))
-          (look ! (spot 4 14) refl)) tt) (from ! (stop !)) (init ! (spot 4 15) refl (tt, tt)) $
+          assigns ! (bin ! (the-field ! (spot 4 9) 1 refl refl (whole !)) (lit ! tt) (record { fits = place-fits })) (from ! (stop !))
+          (init ! (spot 4 14) refl (tt, record { fits = place-fits })) $
+          assigns ! (bin ! (the-field ! (spot 4 4) 0 refl refl (whole !)) (the-local ! (spot 4 14) refl) tt) (from ! (stop !)) (init ! (spot 4 15) refl (tt, tt)) $
           rewrite ! (spot 4 15) (λ (z : ℕ). ‵ (fat fullShare tyPtr l₁₅ 0 (vptr (a .records .place) z))) (sym (place-is 24 (a .records .offset)
           (t .p .appended))) refl $
           move ! (2 ∷ 1 ∷ []) $
@@ -378,30 +384,28 @@ module _ {M : Type 1} (𝓤 : URA M) (H : Heap 𝓤) (A : Atoms 𝓤) (W : Given
           -- the four slices, each in two temporaries
           assigns ! (addr ! (from ! (fld ! refl (hop ! (look-in ! (spot 4 1) (sub ! 0 refl (whole !))) (stop !))))) (from ! (stop !))
           (init ! (spot 4 17) refl (tt, tt)) $
-          assigns ! (agg ! (and-then ! (load ! (from ! (stop !)) (look ! (spot 4 17) refl)) (and-then ! (load ! (from ! (fld ! refl (stop !))) (look-in ! (spot 4 1)
-          (sub ! 1 refl (whole !)))) (no-more !)))) (from ! (stop !)) (init ! (spot 4 18) refl (tt, (tt, (record { fits = rooms .file .0 }, tt)))) $
+          assigns ! (agg ! (and-then ! (the-local ! (spot 4 17) refl) (and-then ! (the-field ! (spot 4 1) 1 refl refl (whole !)) (no-more !)))) (from ! (stop !))
+          (init ! (spot 4 18) refl (tt, (tt, (record { fits = rooms .file .0 }, tt)))) $
           assigns ! (addr ! (from ! (fld ! refl (hop ! (look-in ! (spot 4 6) (sub ! 0 refl (whole !))) (stop !))))) (from ! (stop !))
           (init ! (spot 4 19) refl (tt, tt)) $
-          assigns ! (agg ! (and-then ! (load ! (from ! (stop !)) (look ! (spot 4 19) refl)) (and-then ! (load ! (from ! (fld ! refl (stop !))) (look-in ! (spot 4 6)
-          (sub ! 1 refl (whole !)))) (no-more !)))) (from ! (stop !)) (init ! (spot 4 20) refl (tt, (tt, (record { fits = rooms .fcm .0 }, tt)))) $
+          assigns ! (agg ! (and-then ! (the-local ! (spot 4 19) refl) (and-then ! (the-field ! (spot 4 6) 1 refl refl (whole !)) (no-more !)))) (from ! (stop !))
+          (init ! (spot 4 20) refl (tt, (tt, (record { fits = rooms .fcm .0 }, tt)))) $
           assigns ! (addr ! (from ! (fld ! refl (hop ! (look-in ! (spot 4 7) (sub ! 0 refl (whole !))) (stop !))))) (from ! (stop !))
           (init ! (spot 4 21) refl (tt, tt)) $
-          assigns ! (agg ! (and-then ! (load ! (from ! (stop !)) (look ! (spot 4 21) refl)) (and-then ! (load ! (from ! (fld ! refl (stop !))) (look-in ! (spot 4 7)
-          (sub ! 1 refl (whole !)))) (no-more !)))) (from ! (stop !)) (init ! (spot 4 22) refl (tt, (tt, (record { fits = rooms .dfcm .0 }, tt)))) $
+          assigns ! (agg ! (and-then ! (the-local ! (spot 4 21) refl) (and-then ! (the-field ! (spot 4 7) 1 refl refl (whole !)) (no-more !)))) (from ! (stop !))
+          (init ! (spot 4 22) refl (tt, (tt, (record { fits = rooms .dfcm .0 }, tt)))) $
           assigns ! (addr ! (from ! (fld ! refl (hop ! (look-in ! (spot 4 8) (sub ! 0 refl (whole !))) (stop !))))) (from ! (stop !))
           (init ! (spot 4 23) refl (tt, tt)) $
-          assigns ! (agg ! (and-then ! (load ! (from ! (stop !)) (look ! (spot 4 23) refl)) (and-then ! (load ! (from ! (fld ! refl (stop !))) (look-in ! (spot 4 8)
-          (sub ! 1 refl (whole !)))) (no-more !)))) (from ! (stop !)) (init ! (spot 4 24) refl (tt, (tt, (record { fits = rooms .bench .0 }, tt)))) $
-          use1 W (later (some (λ (x : Names). raw (Step 𝓤 H A mem run .pre (to-step a words s₀ 𝓤 H A W mem run rooms exam exam-fits (t .p) item (t .s)
-          (t .same) x)) ⊛ ‵ (Rest a words s₀ 𝓤 H A W mem run rooms exam exam-fits (t .p) item (t .s) (t .same) x))))
+          assigns ! (agg ! (and-then ! (the-local ! (spot 4 23) refl) (and-then ! (the-field ! (spot 4 8) 1 refl refl (whole !)) (no-more !)))) (from ! (stop !))
+          (init ! (spot 4 24) refl (tt, (tt, (record { fits = rooms .bench .0 }, tt)))) $
+          use1 W (later (some (λ (x : Names). raw (Step 𝓤 H A mem run .pre (passed x)) ⊛ ‵ (Meanwhile x))))
           (asks a words s₀ 𝓤 H A W mem run rooms exam exam-fits (t .p) item (t .s) (t .same) (below, t .opens below) (t .is) is-r) $ await ! tt $
           pick ! (λ x. split ! $
           -- [what `step` asks for; what is kept; records's token; the borrow; records; the locals, one further on]
-          calls-at-last ! (fmOf 𝓤 H (W .laws) 𝓣) (Step 𝓤 H A mem run) known (to-step a words s₀ 𝓤 H A W mem run rooms exam exam-fits (t .p) item (t .s) (t .same) x)
-          (and-then ! (load ! (from ! (stop !)) (look ! (spot 5 9) refl)) (and-then ! (load ! (from ! (stop !)) (look ! (spot 5 16) refl))
-          (and-then ! (load ! (from ! (stop !)) (look ! (spot 5 18) refl)) (and-then ! (load ! (from ! (stop !)) (look ! (spot 5 3) refl))
-          (and-then ! (load ! (from ! (stop !)) (look ! (spot 5 5) refl)) (and-then ! (load ! (from ! (stop !)) (look ! (spot 5 20) refl))
-          (and-then ! (load ! (from ! (stop !)) (look ! (spot 5 22) refl)) (and-then ! (load ! (from ! (stop !)) (look ! (spot 5 24) refl)) (no-more !))))))))) (λ w.
+          calls-at-last ! (fmOf 𝓤 H (W .laws) 𝓣) (Step 𝓤 H A mem run) known (passed x)
+          (and-then ! (the-local ! (spot 5 9) refl) (and-then ! (the-local ! (spot 5 16) refl) (and-then ! (the-local ! (spot 5 18) refl)
+          (and-then ! (the-local ! (spot 5 3) refl) (and-then ! (the-local ! (spot 5 5) refl) (and-then ! (the-local ! (spot 5 20) refl)
+          (and-then ! (the-local ! (spot 5 22) refl) (and-then ! (the-local ! (spot 5 24) refl) (no-more !))))))))) (λ w.
           use2 W (later (some (λ (n : Progress × Lent). given (Known n) (‵ (progress-row.the-row .own (n .0) (w ∷ [])) ⊛ ‵ (Lents (n .1))))))
           (answers a words s₀ 𝓤 H A W mem run rooms exam exam-fits (t .p) item (t .s) (t .same) x w) $ await ! tt $ pick ! (λ n. learn ! (λ e. split ! $
           peeks ! progress-row.the-row (Is progress-row.the-row) (shows 𝓤 H A progress-row.the-row) (n .0) (w ∷ []) (λ is.
@@ -421,6 +425,14 @@ module _ {M : Type 1} (𝓤 : URA M) (H : Heap 𝓤) (A : Atoms 𝓤) (W : Given
     looped is = first ! $ blocks ! $ loops ! 𝓣 (Nearer words rs l exam s₀) (nearer-ends words rs l exam s₀) At (λ t. turns t (ltb (t .p .appended)
         (t .p .stop)) refl) (start words rs l exam s₀ is)
 
+  -- what `begin` is passed, and what is kept meanwhile
+  module _ (rooms : Rooms s₀) (exam-fits : exam < 2 ^ 64) where
+    abbrev passed-begin : ℕ × GName → Begin 𝓤 H A mem run .Ghost
+    passed-begin x = to-begin a words s₀ 𝓤 H A W mem run rooms exam exam-fits l (length rs) x
+
+    abbrev Meanwhile-begin : ℕ × GName → Fml
+    Meanwhile-begin x = FileKept a words s₀ 𝓤 H A W mem run rooms exam exam-fits l (length rs) x
+
   -- the whole function
   walk : (𝓣 : Tables 𝓤 H) → Triple 𝓤 (𝓣 .C #begin) (Begin 𝓤 H A mem run) → Triple 𝓤 (𝓣 .C #step) (Step 𝓤 H A mem run)
       → Room record-row.the-row (length rs) → Room u64 (length words) → Rooms s₀ → l < 2 ^ 64 → exam < 2 ^ 64
@@ -429,7 +441,9 @@ module _ {M : Type 1} (𝓤 : URA M) (H : Heap 𝓤) (A : Atoms 𝓤) (W : Given
   walk 𝓣 known-begin known records-fit words-fit rooms l-fits exam-fits =
       qed W (‵ (Lents s₀) ∷ ‵ (token (a .records)) ∷ ‵ Shared ∷ ‵ Own ∷ []) ∵ enter ! (𝓣 .C) (𝓣 .Λ) code.function (fileVal ∷ vint w64 l ∷ vint w64 exam ∷
       recordsVal ∷ wordsVal ∷ fcmVal ∷ dfcmVal ∷ benchVal ∷ []) _ $
-      alloc1 ! (λ l₀. alloc1 ! (λ l₁. alloc1 ! (λ l₂. alloc1 ! (λ l₃. alloc1 ! (λ l₄. alloc1 ! (λ l₅. alloc1 ! (λ l₆. alloc1 ! (λ l₇. alloc1 ! (λ l₈. alloc1 ! (λ l₉. alloc1 ! (λ l₁₀. alloc1 ! (λ l₁₁. alloc1 ! (λ l₁₂. alloc1 ! (λ l₁₃. alloc1 ! (λ l₁₄. alloc1 ! (λ l₁₅. alloc1 ! (λ l₁₆. alloc1 ! (λ l₁₇. alloc1 ! (λ l₁₈. alloc1 ! (λ l₁₉. alloc1 ! (λ l₂₀. alloc1 ! (λ l₂₁. alloc1 ! (λ l₂₂. alloc1 ! (λ l₂₃. alloc1 ! (λ l₂₄. alloc0 ! $ params1 ! $
+      alloc1 ! (λ l₀. alloc1 ! (λ l₁. alloc1 ! (λ l₂. alloc1 ! (λ l₃. alloc1 ! (λ l₄. alloc1 ! (λ l₅. alloc1 ! (λ l₆. alloc1 ! (λ l₇. alloc1 ! (λ l₈.
+      alloc1 ! (λ l₉. alloc1 ! (λ l₁₀. alloc1 ! (λ l₁₁. alloc1 ! (λ l₁₂. alloc1 ! (λ l₁₃. alloc1 ! (λ l₁₄. alloc1 ! (λ l₁₅. alloc1 ! (λ l₁₆. alloc1 ! (λ l₁₇.
+      alloc1 ! (λ l₁₈. alloc1 ! (λ l₁₉. alloc1 ! (λ l₂₀. alloc1 ! (λ l₂₁. alloc1 ! (λ l₂₂. alloc1 ! (λ l₂₃. alloc1 ! (λ l₂₄. alloc0 ! $ params1 ! $
       pass1 ! (init ! (spot 0 1) refl (tt, (tt, (record { fits = rooms .file .0 }, tt)))) $ pass1 ! (init ! (spot 0 2) refl (tt, record { fits = l-fits })) $
       pass1 ! (init ! (spot 0 3) refl (tt, record { fits = exam-fits })) $ pass1 ! (init ! (spot 0 4) refl (tt, (tt, (record { fits = records-fit .0 }, tt)))) $
       pass1 ! (init ! (spot 0 5) refl (tt, (tt, (record { fits = words-fit .0 }, tt)))) $
@@ -438,17 +452,16 @@ module _ {M : Type 1} (𝓤 : URA M) (H : Heap 𝓤) (A : Atoms 𝓤) (W : Given
       pass1 ! (init ! (spot 0 8) refl (tt, (tt, (record { fits = rooms .bench .0 }, tt)))) $ pass0 ! $
       assigns ! (addr ! (from ! (fld ! refl (hop ! (look-in ! (spot 0 1) (sub ! 0 refl (whole !))) (stop !))))) (from ! (stop !))
       (init ! (spot 0 10) refl (tt, tt)) $
-      assigns ! (agg ! (and-then ! (load ! (from ! (stop !)) (look ! (spot 0 10) refl)) (and-then ! (load ! (from ! (fld ! refl (stop !))) (look-in ! (spot 0 1)
-      (sub ! 1 refl (whole !)))) (no-more !)))) (from ! (stop !)) (init ! (spot 0 11) refl (tt, (tt, (record { fits = rooms .file .0 }, tt)))) $
-      assigns ! (of-opd ! (load ! (from ! (fld ! refl (stop !))) (look-in ! (spot 0 4) (sub ! 1 refl (whole !))))) (from ! (stop !))
-      (init ! (spot 0 12) refl (tt, record { fits = records-fit .0 })) $
+      assigns ! (agg ! (and-then ! (the-local ! (spot 0 10) refl) (and-then ! (the-field ! (spot 0 1) 1 refl refl (whole !)) (no-more !)))) (from ! (stop !))
+      (init ! (spot 0 11) refl (tt, (tt, (record { fits = rooms .file .0 }, tt)))) $
+      assigns ! (of-opd ! (the-field ! (spot 0 4) 1 refl refl (whole !))) (from ! (stop !)) (init ! (spot 0 12) refl (tt, record { fits = records-fit .0 })) $
       -- [the locals; what is lent; records's token; the borrow; records]
-      move ! (50 ∷ []) $ fsplit ! $ use1 W (later (some (λ (x : ℕ × GName). raw (Begin 𝓤 H A mem run .pre (to-begin a words s₀ 𝓤 H A W mem run rooms exam exam-fits l (length rs) x)) ⊛ ‵ (FileKept a words s₀ 𝓤 H A W mem run rooms exam exam-fits l (length rs) x))))
+      move ! (50 ∷ []) $ fsplit ! $ use1 W (later (some (λ (x : ℕ × GName). raw (Begin 𝓤 H A mem run .pre (passed-begin rooms exam-fits x)) ⊛
+      ‵ (Meanwhile-begin rooms exam-fits x))))
       (asks-begin a words s₀ 𝓤 H A W mem run rooms exam exam-fits l (length rs) l-fits (records-fit .0)) $ await ! tt $ pick ! (λ x. split ! $
       -- [what `begin` asks for; what is kept; the other slices; the locals; records's token; the borrow; records]
-      calls-at ! (fmOf 𝓤 H (W .laws) 𝓣) (Begin 𝓤 H A mem run) known-begin (to-begin a words s₀ 𝓤 H A W mem run rooms exam exam-fits l (length rs) x)
-      (and-then ! (load ! (from ! (stop !)) (look ! (spot 3 11) refl)) (and-then ! (load ! (from ! (stop !)) (look ! (spot 3 2) refl))
-      (and-then ! (load ! (from ! (stop !)) (look ! (spot 3 3) refl)) (and-then ! (load ! (from ! (stop !)) (look ! (spot 3 12) refl)) (no-more !))))) (λ w.
+      calls-at ! (fmOf 𝓤 H (W .laws) 𝓣) (Begin 𝓤 H A mem run) known-begin (passed-begin rooms exam-fits x) (and-then ! (the-local ! (spot 3 11) refl)
+      (and-then ! (the-local ! (spot 3 2) refl) (and-then ! (the-local ! (spot 3 3) refl) (and-then ! (the-local ! (spot 3 12) refl) (no-more !))))) (λ w.
       use2 W (later (‵ (progress-row.the-row .own (p₀ words rs l exam s₀) (w ∷ [])) ⊛
       ‵ (FileOurs a words s₀ 𝓤 H A W mem run rooms exam exam-fits l (length rs))))
       (answers-begin a words s₀ 𝓤 H A W mem run rooms exam exam-fits l (length rs) x w) $ await ! tt $ split ! $
@@ -457,22 +470,40 @@ module _ {M : Type 1} (𝓤 : URA M) (H : Heap 𝓤) (A : Atoms 𝓤) (W : Given
       rewrite ! (spot 3 9) (λ (u : Val). ‵ (fat fullShare progress-laws.mir l₉ 0 u))
       (ap only (LL.tells progress-row.the-type progress-laws.the-laws (p₀ words rs l exam s₀) (w ∷ []) is)) refl $
       drop ! $ fjoin ! $ forget ! (spot 1 10) refl $ forget ! (spot 1 11) refl $ forget ! (spot 1 12) refl $ move ! (0 ∷ 51 ∷ 52 ∷ 53 ∷ []) $
-      looped 𝓣 known records-fit rooms l-fits exam-fits l₀ l₁ l₂ l₃ l₄ l₅ l₆ l₇ l₈ l₉ l₁₀ l₁₁ l₁₂ l₁₃ l₁₄ l₁₅ l₁₆ l₁₇ l₁₈ l₁₉ l₂₀ l₂₁ l₂₂ l₂₃ l₂₄ (subst (Is progress-row.the-row (p₀ words rs l exam s₀)) (LL.tells progress-row.the-type progress-laws.the-laws (p₀ words rs l exam s₀) (w ∷ []) is) is)))))))))))))))))))))))))))))
+      looped 𝓣 known records-fit rooms l-fits exam-fits l₀ l₁ l₂ l₃ l₄ l₅ l₆ l₇ l₈ l₉ l₁₀ l₁₁ l₁₂ l₁₃ l₁₄ l₁₅ l₁₆ l₁₇ l₁₈ l₁₉ l₂₀ l₂₁ l₂₂ l₂₃ l₂₄
+      (subst (Is progress-row.the-row (p₀ words rs l exam s₀)) (LL.tells progress-row.the-type progress-laws.the-laws (p₀ words rs l exam s₀) (w ∷
+      []) is) is)))))))))))))))))))))))))))))
 
 module _ {M : Type 1} (𝓤 : URA M) (H : Heap 𝓤) (A : Atoms 𝓤) (W : Given 𝓤 H A) (mem : Memory → SProp 𝓤) (run : Routine → Fun 𝓤) where
   walks : (𝓣 : Tables 𝓤 H) → Triple 𝓤 (𝓣 .C #begin) (Begin 𝓤 H A mem run) → Triple 𝓤 (𝓣 .C #step) (Step 𝓤 H A mem run)
       → Walks 𝓤 H A all.ended stayed (WpFn 𝓤 H (𝓣 .C) (𝓣 .Λ) code.function) (all.clauses 𝓤 H A mem run)
   walks 𝓣 known-begin known = walked 𝓤 H A all.ended stayed (all.clauses 𝓤 H A mem run) (WpFn 𝓤 H (𝓣 .C) (𝓣 .Λ) code.function)
       (λ κs. (slice-vals, (uint-vals w64, (uint-vals w64, (slice-vals, (slice-vals, (slice-vals, (slice-vals, (slice-vals, tt)))))))))
-      (λ κs. (mut-slice-tells (named 0) (κs .0) u8, (uint-tells w64, (uint-tells w64, (shr-slice-tells (named 1) (κs .1 .0) record-row.the-row, (shr-slice-tells (named 2) (κs .1 .1 .0) u64, (mut-slice-tells (named 3) (κs .1 .1 .1 .0) u64, (mut-slice-tells (named 4) (κs .1 .1 .1 .1 .0) u64, (mut-slice-tells (named 5) (κs .1 .1 .1 .1 .1 .0) u8, tt)))))))))
+      (λ κs. (
+        mut-slice-tells (named 0) (κs .0) u8,
+        (
+          uint-tells w64,
+          (
+            uint-tells w64,
+            (
+              shr-slice-tells (named 1) (κs .1 .0) record-row.the-row,
+              (
+                shr-slice-tells (named 2) (κs .1 .1 .0) u64,
+                (mut-slice-tells (named 3) (κs .1 .1 .1 .0) u64, (mut-slice-tells (named 4) (κs .1 .1 .1 .1 .0) u64, (mut-slice-tells (named 5) (κs .1 .1 .1 .1 .1 .0) u8, tt))),
+              ),
+            ),
+          ),
+        ),
+      ))
       (λ κs qs bounds x g are.
-      let from-file : Source = record { lifetime = κs .0; share = qs .0; name = x .0 .name; place = x .0 .ptr .0; offset = x .0 .ptr .1 } in
-      let from-records : Source = record { lifetime = κs .1 .0; share = qs .1 .0; name = x .1 .1 .1 .0 .name; place = x .1 .1 .1 .0 .ptr .0; offset = x .1 .1 .1 .0 .ptr .1 } in
-      let from-words : Source = record { lifetime = κs .1 .1 .0; share = qs .1 .1 .0; name = x .1 .1 .1 .1 .0 .name; place = x .1 .1 .1 .1 .0 .ptr .0; offset = x .1 .1 .1 .1 .0 .ptr .1 } in
-      let from-fcm : Source = record { lifetime = κs .1 .1 .1 .0; share = qs .1 .1 .1 .0; name = x .1 .1 .1 .1 .1 .0 .name; place = x .1 .1 .1 .1 .1 .0 .ptr .0; offset = x .1 .1 .1 .1 .1 .0 .ptr .1 } in
-      let from-dfcm : Source = record { lifetime = κs .1 .1 .1 .1 .0; share = qs .1 .1 .1 .1 .0; name = x .1 .1 .1 .1 .1 .1 .0 .name; place = x .1 .1 .1 .1 .1 .1 .0 .ptr .0; offset = x .1 .1 .1 .1 .1 .1 .0 .ptr .1 } in
-      let from-bench : Source = record { lifetime = κs .1 .1 .1 .1 .1 .0; share = qs .1 .1 .1 .1 .1 .0; name = x .1 .1 .1 .1 .1 .1 .1 .0 .name; place = x .1 .1 .1 .1 .1 .1 .1 .0 .ptr .0; offset = x .1 .1 .1 .1 .1 .1 .1 .0 .ptr .1 } in
-      let a : Sources = record { file = from-file; records = from-records; words = from-words; fcm = from-fcm; dfcm = from-dfcm; bench = from-bench } in
+      let a : Sources = record {
+        file = source (κs .0) (qs .0) (x .0);
+        records = source (κs .1 .0) (qs .1 .0) (x .1 .1 .1 .0);
+        words = source (κs .1 .1 .0) (qs .1 .1 .0) (x .1 .1 .1 .1 .0);
+        fcm = source (κs .1 .1 .1 .0) (qs .1 .1 .1 .0) (x .1 .1 .1 .1 .1 .0);
+        dfcm = source (κs .1 .1 .1 .1 .0) (qs .1 .1 .1 .1 .0) (x .1 .1 .1 .1 .1 .1 .0);
+        bench = source (κs .1 .1 .1 .1 .1 .0) (qs .1 .1 .1 .1 .1 .0) (x .1 .1 .1 .1 .1 .1 .1 .0);
+      } in
       let s₀ : Lent = lent (x .0 .now) (x .1 .1 .1 .1 .1 .0 .now) (x .1 .1 .1 .1 .1 .1 .0 .now) (x .1 .1 .1 .1 .1 .1 .1 .0 .now) in
       let rooms : Rooms s₀ = record { file = are .0 .0 .1; fcm = are .1 .1 .1 .1 .1 .0 .0 .1; dfcm = are .1 .1 .1 .1 .1 .1 .0 .0 .1; bench = are .1 .1 .1 .1 .1 .1 .1 .0 .0 .1 } in
       via 𝓤 _ (fst∗ 𝓤 _ (emp 𝓤)) (via 𝓤 _ (arranged 𝓤 H A W mem run a (x .1 .0) (x .1 .1 .0) (x .1 .1 .1 .0 .now) (x .1 .1 .1 .1 .0 .now) s₀)
