@@ -67,7 +67,7 @@ static const char *what_to_do(uint32_t number)
     case COIL_TOO_SHORT:
         return "too few bytes, or a length beyond the buffer: read the file again, whole, or take the copy";
     case COIL_BAD_TRAILER:
-        return "the file is damaged, or was cut short: take the copy; at creation: choose t from 0 to 16";
+        return "not the file's length (a list leaves a new one), or damaged: take the copy; at creation: t above 16";
     case COIL_BAD_BLOCK_LENGTH:
     case COIL_BAD_FILLER:
     case COIL_BAD_DIRECTORY:
@@ -81,7 +81,7 @@ static const char *what_to_do(uint32_t number)
     case COIL_FILE_FULL:
         return "the file has its 1,024 maps: begin another file";
     case COIL_BAD_RECORD:
-        return "a record of a list reaches beyond the words: mend its first or count, and go on from there";
+        return "a record of a list reaches beyond the words: mend it, and go on from it with the new length";
     default:
         return "no such number: header and library are not of one version";
     }

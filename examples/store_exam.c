@@ -1,5 +1,5 @@
-/* Keeps the coil sensitivity maps of one exam in one file: stores sixteen by one call, reads one back, appends one more
- * from a list that is refused then, and replaces one.
+/* Keeps the coil sensitivity maps of one exam in one file: stores sixteen by one call, reads one back, appends two more
+ * from a list whose second record is refused, mended and gone on with, and replaces one.
  *
  * The memory here is static and sized by the macros of coil.h. The file stays in memory: exam_on_disk.c, beside
  * this one, keeps it on disk.
@@ -10,16 +10,17 @@
 #include <stdlib.h>
 #include <string.h>
 
-#define MAPS 16u                    /* one slot a coil; one map more is appended later */
-#define MOVED_COIL 16u              /* two places where none of these coils is */
-#define ADDED_COIL 17u
+#define MAPS 16u                    /* one slot a coil */
+#define ADDED 2u                    /* maps that are appended later */
+#define ADDED_COIL MAPS             /* the first of their coils, each at a place of its own */
+#define MOVED_COIL (MAPS + ADDED)
 #define SIDE 64u                    /* a map is SIDE x SIDE values */
 #define VALUES (SIDE * SIDE)
 #define T 10u                       /* tables of 2^10 words */
 #define EXAM UINT64_C(20240117)
 
 /* Room for every map at its worst; the maps will need far less. */
-static uint8_t file[COIL_FILE_ROOM(MAPS + 1, VALUES)];
+static uint8_t file[COIL_FILE_ROOM(MAPS + ADDED, VALUES)];
 static uint8_t bench[COIL_WORST(VALUES)];
 static uint64_t fcm[COIL_TABLE_WORDS(T)];
 static uint64_t dfcm[COIL_TABLE_WORDS(T)];
@@ -52,6 +53,15 @@ static void make_map(unsigned coil, uint64_t *to)
     }
 }
 
+/* Appends the maps of a list, whose words are among the first words_len of all. */
+static uint32_t append_list(size_t length, const coil_record *records, size_t count, size_t words_len,
+                            size_t *appended, size_t *new_length)
+{
+    return coil_append_all(file, sizeof file, length, EXAM, records, count, words, words_len,
+                           fcm, COIL_TABLE_WORDS(T), dfcm, COIL_TABLE_WORDS(T),
+                           bench, sizeof bench, appended, new_length);
+}
+
 static size_t store_all_maps(void)
 {
     coil_record records[MAPS];
@@ -64,9 +74,7 @@ static size_t store_all_maps(void)
     }
     must_be(COIL_DONE, coil_create(file, sizeof file, EXAM, T, &length), "create");
     printf("created an empty file of %zu bytes\n", length);
-    must_be(COIL_DONE, coil_append_all(file, sizeof file, length, EXAM, records, MAPS, words, MAPS * VALUES,
-                                       fcm, COIL_TABLE_WORDS(T), dfcm, COIL_TABLE_WORDS(T),
-                                       bench, sizeof bench, &appended, &new_length), "append all");
+    must_be(COIL_DONE, append_list(length, records, MAPS, MAPS * VALUES, &appended, &new_length), "append all");
     printf("%zu maps of %zu bytes were appended in one call: the file has %zu bytes\n", appended, sizeof map,
            new_length);
     return new_length;
@@ -108,19 +116,24 @@ static void read_back(size_t length, uint32_t slot)
     printf("fetched %u values of slot %u, every bit as it was\n", VALUES, (unsigned)slot);
 }
 
-/* Two coils more, and the words of one: the second record is refused, since it reaches beyond the words. What went in
- * before it stays, so the new length counts. To go on, mend the record and lend records + appended. */
-static size_t append_up_to_a_refusal(size_t length)
+/* Two coils more. The second record begins a word too late, so it reaches beyond the words and is refused. What went in
+ * before it stays, and the new length counts. The record is mended, and the call goes on from it. */
+static size_t append_and_go_on(size_t length)
 {
-    const coil_record records[2] = { { MAPS, 0, VALUES }, { MAPS + 1, VALUES, VALUES } };
+    coil_record records[ADDED] = { { MAPS, 0, VALUES }, { MAPS + 1, VALUES + 1, VALUES } };
     size_t appended, new_length;
-    make_map(ADDED_COIL, map);
-    must_be(COIL_BAD_RECORD, coil_append_all(file, sizeof file, length, EXAM, records, 2, map, VALUES,
-                                             fcm, COIL_TABLE_WORDS(T), dfcm, COIL_TABLE_WORDS(T),
-                                             bench, sizeof bench, &appended, &new_length), "append two with one map");
-    printf("a list of two with the words of one: refused with %u, %zu went in and stays, the file has %zu bytes\n",
-           (unsigned)COIL_BAD_RECORD, appended, new_length);
-    must_hold_map_of(new_length, MAPS, ADDED_COIL);
+    make_map(ADDED_COIL, words);
+    make_map(ADDED_COIL + 1, words + VALUES);
+    must_be(COIL_BAD_RECORD, append_list(length, records, ADDED, ADDED * VALUES, &appended, &new_length),
+            "append a list with a bad record");
+    printf("a list of %u: record %zu is refused with %u, what went in before stays, the file has %zu bytes\n", ADDED,
+           appended, (unsigned)COIL_BAD_RECORD, new_length);
+    if (new_length != 0)
+        length = new_length;
+    records[appended].first = VALUES;
+    must_be(COIL_DONE, append_list(length, records + appended, ADDED - appended, ADDED * VALUES, &appended,
+                                   &new_length), "go on with the list");
+    printf("mended, and gone on with: %zu more went in, the file has %zu bytes\n", appended, new_length);
     return new_length;
 }
 
@@ -133,9 +146,8 @@ static void replace_map(size_t length, uint32_t slot)
                                     fcm, COIL_TABLE_WORDS(T), dfcm, COIL_TABLE_WORDS(T),
                                     bench, sizeof bench, &new_length), "replace");
     printf("replaced slot %u: the file had %zu bytes and has %zu\n", (unsigned)slot, length, new_length);
-    for (uint32_t each = 0; each < MAPS; each++)
+    for (uint32_t each = 0; each < MAPS + ADDED; each++)
         must_hold_map_of(new_length, each, each == slot ? MOVED_COIL : each);
-    must_hold_map_of(new_length, MAPS, ADDED_COIL);
     printf("slot %u gives the new map, every other slot its own, every bit as it was\n", (unsigned)slot);
 }
 
@@ -144,7 +156,7 @@ int main(void)
     size_t length = store_all_maps();
     print_blocks(length);
     read_back(length, 11);
-    length = append_up_to_a_refusal(length);
+    length = append_and_go_on(length);
     replace_map(length, 11);
     return 0;
 }

@@ -33,15 +33,16 @@
  * Every call answers one number, 0 to 12 or 15, listed below. 0 is success.
  *
  *   On success, each lent number holds its result. Each buffer written holds its result first and its
- *   old content beyond; only coil_replace clears more, where a file gets shorter, and coil_append_all leaves in
- *   its bench, beyond the last block, what its blocks before left there. Both tables hold the state of the
- *   predictors after the last word.
+ *   old content beyond, with two exceptions: coil_replace clears what a file that gets shorter leaves free, and
+ *   coil_append_all leaves in its bench, beyond the last block, what the blocks before it left there. Both tables
+ *   hold the state of the predictors after the last word (of a list, after its last map).
  *
  *   On a refusal, each lent number (length, count, offset, block_length, appended, new_length) is 0. Nothing
  *   else you lent has changed, the tables included. There is one exception: where coil_append_all refuses a
  *   record that is not its first, the maps before that record stay in the file, appended and new_length say
  *   how many they are and how long the file is now, and the tables and the bench are as those maps left them.
- *   The refused record itself has changed nothing.
+ *   The refused record itself has changed nothing. From then on the file's length is new_length: with the old one
+ *   you would lend a file cut short.
  *
  * Where several rules are broken, the first check of the call's list answers.
  *
@@ -137,8 +138,8 @@ extern "C" {
 #define COIL_BAD_BLOCK_LENGTH 5u
 /* The block has an odd count, and the unused half of its last code byte is not 7. */
 #define COIL_BAD_FILLER 6u
-/* The file's trailer breaks a rule other than the exam number, or the file is over 16,777,216 bytes.
- * At creation: t is above 16. */
+/* The file's trailer breaks a rule other than the exam number (as what stands in its place mostly does where length is
+ * not the file's own), or the file is over 16,777,216 bytes. At creation: t is above 16. */
 #define COIL_BAD_TRAILER 7u
 /* The exam number is 0, or is not the one asked for. */
 #define COIL_WRONG_EXAM 8u
@@ -291,15 +292,17 @@ typedef struct coil_record {
 /* Append the maps of a list, one after another, up to the first that is refused. The outcome is that of coil_append
  * called for each record in turn: the same file, tables and bench.
  *
- *   file, file_len     the buffer; each append asks for COIL_APPEND_ROOM of the length reached by then. For k records
- *                      of at most n words COIL_FILE_ROOM(k, n) bytes are enough where the file has no slot yet, and
- *                      length + k * COIL_APPEND_ROOM(0, n) always (the limit of a file's length holds beside)
+ *   file, file_len     the buffer; each append asks for COIL_APPEND_ROOM of the length reached by then. Enough are:
+ *                      for k records of at most n words COIL_FILE_ROOM(k, n) bytes, where the file has no slot yet;
+ *                      always, length plus COIL_APPEND_ROOM(0, count) of each record. (A file has at most
+ *                      COIL_MOST_FILE_BYTES, whatever you lend.)
  *   length, exam       as for coil_open
  *   records            the list; read only. Each slot must be above the one before, and the first above every slot
  *                      in the file
- *   records_len        how many; there may be none, and more than the file can take (then 12 is answered)
+ *   records_len        how many; there may be none, and more than fit: then those that fit go in, and the next is
+ *                      answered 12 (entries) or 3 (bytes)
  *   words, words_len   the words of all the maps; read only. Records may take them in any order, share them, leave
- *                      some out, and have none (a count of 0)
+ *                      some out, and have none (a count of 0, with a first of at most words_len)
  *   fcm, dfcm          the two tables, of 2^t words with the file's t; cleared and used for each record
  *   bench, bench_len   room to pack in; lend at least COIL_WORST(n) bytes, with the largest count n
  *   appended           becomes the number of maps that went in
@@ -307,22 +310,26 @@ typedef struct coil_record {
  *                      variable than the one that holds the old length, which is still right then
  *
  * Checks in order: open (4, 7, 8, 9). Then for each record: 15 first + count above words_len (a sum that would wrap
- * is above it too); 12 file has 1,024 entries; 11 slot not above the last; 1 tables; 2 count above 65,536; 3 as for
- * coil_append, with the length reached by then.
- * On success *appended is records_len, and the last map's block is also in the first bytes of bench; beyond it stands
- * what the blocks before left there. Earlier blocks are where they were, and the buffer beyond *new_length is as it
- * was. A list without a record changes nothing: where the file opens, 0 is answered, *appended is 0 and *new_length
- * is length; nothing else is looked at.
- * On a refusal records[*appended] is the record that was refused, unless the file did not open. The maps before it
- * stay in the file, which has *new_length bytes and opens; the tables and the bench are as the last of them left
- * them. With none in, *appended and *new_length are 0 and nothing has changed. So, refused or not:
+ * is above it too); 12 file has 1,024 entries; 11 slot not above the last; 1 tables (at the first record, since they
+ * are the same for all); 2 count above 65,536; 3 as for coil_append, with the length reached by then.
+ * On success *appended is records_len. A list without a record changes nothing: where the file opens, 0 is answered,
+ * *appended is 0 and *new_length is length; nothing else is looked at.
+ * On a refusal by 4, 7, 8 or 9 the file did not open. By any other, records[*appended] is the record that was refused;
+ * the maps before it stay in the file, which has *new_length bytes and opens. With none in, *appended and *new_length
+ * are 0 and nothing has changed. So, refused or not:
  *
  *     if (new_length != 0)
  *         length = new_length;
  *
- * To go on after a refusal, mend that record, or lend what was too small, and call again with that length, records +
- * appended and records_len - appended; after 12, with another file. To have all maps or none, work on a copy of the
- * buffer: maps that went in cannot be taken out. */
+ * Refused or not, where maps went in: the last one's block is also in the first bytes of bench, and beyond it stands
+ * what the blocks before left there; the tables are as that block left them; earlier blocks are where they were; the
+ * buffer beyond *new_length is as it was.
+ *
+ * To go on after a refusal, do what its number asks for, and call again with that length, records + appended and
+ * records_len - appended. 15, 11: mend the record. 2: cut the map, over more records. 1: lend tables of 2^t words.
+ * 3, with n = records[appended].count: lend a larger bench where COIL_WORST(n) is above bench_len; begin another file
+ * where COIL_APPEND_ROOM(length, n) is above COIL_MOST_FILE_BYTES; else lend a larger buffer. 12: begin another file.
+ * To have all maps or none, work on a copy of the buffer: maps that went in cannot be taken out. */
 uint32_t coil_append_all(uint8_t *file, size_t file_len, size_t length, uint64_t exam,
                          const coil_record *records, size_t records_len,
                          const uint64_t *words, size_t words_len,
@@ -333,7 +340,7 @@ uint32_t coil_append_all(uint8_t *file, size_t file_len, size_t length, uint64_t
  *
  *   file, file_len     the buffer; lend at least COIL_REPLACE_ROOM(length, block_length, words_len) bytes, with
  *                      the block_length that coil_find answers for the slot; length + COIL_WORST(words_len) bytes
- *                      of buffer are always enough (the limit of a file's length holds beside)
+ *                      of buffer are always enough (a file has at most COIL_MOST_FILE_BYTES, whatever you lend)
  *   length, exam       as for coil_open
  *   slot               the slot whose words go
  *   words, words_len   the new words, more or fewer than before; read only

@@ -12,7 +12,7 @@
 /* More than any limit, so that one beyond each limit can be lent as well. */
 #define FILE_BYTES ((size_t)17 << 20)
 #define BLOCK_BYTES ((size_t)600000)
-#define WORD_BYTES ((size_t)8 * 65600)
+#define WORD_BYTES ((size_t)8 * 16 * 65536)
 #define TABLE_BYTES ((size_t)8 << 17)
 #define RECORD_BYTES (sizeof(coil_record) * 1100)
 

@@ -112,6 +112,32 @@ static void most_words_in_a_list(void)
     forget_exam_file(&f);
 }
 
+/* What an engine holds: sixteen maps, here of the most words, in one buffer. The first slot has its last words. */
+static void sixteen_full_maps(void)
+{
+    static uint64_t maps[16 * MOST_WORDS];
+    const size_t room = 16 * (12 + WORST(MOST_WORDS));
+    coil_record list[16];
+    exam_file f = new_exam_file(32 + room, 11, 10);
+    make_words(AIR_MAP, maps, 16 * MOST_WORDS);
+    for (uint32_t i = 0; i < 16; i++) {
+        coil_record record = { i, (size_t)MOST_WORDS * (15 - i), MOST_WORDS };
+        list[i] = record;
+    }
+    this_case_is("sixteen maps of 65,536 words in one buffer");
+    outcome listed = compare_append_all(lend_with_spare(&f, room), list, 16, maps, 16 * MOST_WORDS, tables_of(10),
+                                        WORST(MOST_WORDS));
+    must_answer(listed, 0);
+    must_hold(listed.second == 16, "all went in");
+    take_over_list(&f, listed);
+    for (uint32_t i = 0; i < 16; i += 5) {
+        outcome fetched = compare_fetch(lend_with_spare(&f, 0), i, tables_of(10), MOST_WORDS);
+        must_answer(fetched, 0);
+        must_hold(memcmp(fetched.words, maps + list[i].first, 8 * MOST_WORDS) == 0, "each map gives its words");
+    }
+    forget_exam_file(&f);
+}
+
 /* Well formed but for the count: 65,537 zeros. Also with 65,535 and 65,536 of them. */
 static void one_word_too_many(void)
 {
@@ -239,19 +265,20 @@ static void append_up_to_the_limit(size_t count)
     }
 }
 
-/* The second record of a list may reach the limit in the worst case, and not pass it. The first has no words and takes
- * 20 bytes; the third has none either, and finds room once the second has gone in. */
-static void list_up_to_the_limit(size_t count)
+/* One record of a list may reach the limit in the worst case, and not pass it. Each before it has no words and takes
+ * 20 bytes; those behind it have none either, and find room once it has gone in. */
+static void list_up_to_the_limit(size_t count, size_t place)
 {
-    const coil_record list[3] = { { 6, 1, 0 }, { 7, 1, count }, { 8, 1, 0 } };
+    coil_record list[3] = { { 6, 1, 0 }, { 7, 1, 0 }, { 8, 1, 0 } };
+    list[place].count = count;
     make_words(ZEROS, words, 1 + count);
     for (size_t beyond = 0; beyond <= 1; beyond++) {
-        exam_file f = file_of_length(LIMIT - 20 - 12 - WORST(count) + beyond);
-        this_case_is("list with %zu words, %zu beyond the limit", count, beyond);
+        exam_file f = file_of_length(LIMIT - 20 * place - 12 - WORST(count) + beyond);
+        this_case_is("list with %zu words at %zu, %zu beyond the limit", count, place, beyond);
         outcome listed = compare_append_all(lend_with_spare(&f, 100 + WORST(count)), list, 3, words, 1 + count,
                                             tables_of(3), WORST(count));
         must_answer(listed, beyond ? 3 : 0);
-        must_hold(listed.second == (beyond ? 1 : 3), "as many went in as stay within the limit");
+        must_hold(listed.second == (beyond ? place : 3), "as many went in as stay within the limit");
         forget_exam_file(&f);
     }
 }
@@ -476,6 +503,7 @@ void group_far(unsigned rounds)
     one_word_too_many();
     most_words_in_a_file();
     most_words_in_a_list();
+    sixteen_full_maps();
     most_words(rounds);
     make_words(NOISE, words, MOST_WORDS);
     file_at_the_limit();
@@ -483,7 +511,9 @@ void group_far(unsigned rounds)
     append_up_to_the_limit(301);
     replace_up_to_the_limit(301);
     move_much();
-    list_up_to_the_limit(3);
-    list_up_to_the_limit(301);
+    list_up_to_the_limit(301, 0);
+    list_up_to_the_limit(3, 1);
+    list_up_to_the_limit(301, 1);
+    list_up_to_the_limit(301, 2);
     lengths_beyond_32_bits();
 }

@@ -121,6 +121,20 @@ static void make_some_words(size_t count)
 
 /* ---- Lives ---- */
 
+/* Between two lists: one map more, and other words for it. */
+static void append_and_replace(exam_file *f)
+{
+    uint32_t slot = f->entries == 0 ? 7 : last_slot(f) + 1;
+    size_t count = random_below(MOST + 1);
+    outcome appended = compare_append(lend_with_spare(f, 12 + WORST(3)), slot, words, 3, tables_of(f->t), WORST(3));
+    must_answer(appended, 0);
+    take_over(f, appended);
+    outcome replaced = compare_replace(lend_with_spare(f, WORST(count)), slot, words, count, tables_of(f->t),
+                                       WORST(count));
+    must_answer(replaced, 0);
+    take_over_replaced(f, replaced);
+}
+
 static void life(uint32_t t, unsigned round)
 {
     exam_file f = file_of(t, random_below(4));
@@ -135,6 +149,9 @@ static void life(uint32_t t, unsigned round)
         lent.spare += more;
         lent.bench += more;
         is_in_the_file(&f, answers(&f, lent, 0, records));
+        if (random_below(3) == 0) {
+            append_and_replace(&f);
+        }
     }
     forget_exam_file(&f);
 }
@@ -506,7 +523,7 @@ static void most_entries(size_t already)
 
 /* ---- Files that do not open ---- */
 
-/* An empty list is opened too. It asks for no tables, no words and no bench. */
+/* The file is opened for an empty list too, which asks for no tables, no words and no bench. */
 static void as_open_answers(lent_file file, uint32_t t)
 {
     const table_sizes none = { random_below(2), random_below(3) };
@@ -515,7 +532,7 @@ static void as_open_answers(lent_file file, uint32_t t)
     must_answer(empty, opened);
     must_hold(empty.first == (opened == 0 ? file.length : 0), "an empty list answers the length, where the file opens");
     outcome some = compare_append_all(file, list, 3, words, MOST, tables_of(t), WORST(FEW));
-    must_hold(opened == 0 || some.answer == opened, "a list is refused what open refuses");
+    must_hold(opened == 0 || some.answer == opened, "a list is refused as open refuses");
     list[0].first += MOST;
     some = compare_append_all(file, list, 3, words, MOST, tables_of(t), WORST(FEW));
     must_answer(some, opened ? opened : 15);

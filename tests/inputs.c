@@ -127,7 +127,7 @@ void add_block(exam_file *f, uint32_t slot, const uint8_t *block, size_t block_l
     write_trailer(f);
 }
 
-/* The length that is answered is 0 where a call left the file as it was. */
+/* The length that is answered is 0 where a refusal left the file as it was. */
 static void take_over_with(exam_file *f, outcome left, size_t more_entries)
 {
     if (left.first == 0) {

@@ -1,13 +1,13 @@
 -- Tables of one size stay so while they learn, and hashes within them.
 use mathlib.Core.Path.{_≡_, refl, sym, ap, _∙_, subst}
-use mathlib.Core.List.{List}
+use mathlib.Core.List.{List, [], _∷_}
 use Prim.Native.Nat.{ℕ, _^_, _<_}
 use native.Mathlib.Omega.{arith}
 use native.Mathlib.Nat.{mod-lt}
 use lib.ListN.{length, replicate, length-set, length-replicate}
 use lib.Pow.{pow-pos}
 use Rattle.words.specs.Words.{lowBits}
-use Rattle.block_rules.specs.Predictors.{Memory, cleared, nextFcmHash, nextDfcmHash, learn}
+use Rattle.block_rules.specs.Predictors.{Memory, cleared, nextFcmHash, nextDfcmHash, learn, after}
 use Rattle.block_rules.specs.Numbers.{tOf}
 use Rattle.block_rules.specs.Inside.{memory, Sized, Ready, Cleared}
 use Rattle.block_rules.specs.declared.Carry.{Carry}
@@ -31,6 +31,10 @@ learn-long t m v = (length-set (m .fcm) (m .fcmHash) v, length-set (m .dfcm) (m 
 pub held-learn : (t : ℕ) (m : Memory) (v : ℕ) → Held t m → Held t (learn t m v)
 unfolding learn nextFcmHash nextDfcmHash lowBits
 held-learn t m v h = record { fcm = simp length-set (h .fcm); dfcm = simp length-set (h .dfcm); fcmHash = mod-lt _ (pow-pos t); dfcmHash = mod-lt _ (pow-pos t) }
+
+pub held-after : (t : ℕ) (ws : List ℕ) (m : Memory) → Held t m → Held t (after t m ws)
+held-after t [] m h = h
+held-after t (v ∷ vs) m h = held-after t vs (learn t m v) (held-learn t m v h)
 
 pub ready-learn : (f d f' d' : List ℕ) (c c' : Carry) (v : ℕ) → Ready f d c → memory f' d' c' ≡ learn (tOf (length f)) (memory f d c) v → Ready f' d' c'
 ready-learn f d f' d' c c' v r e =

@@ -15,7 +15,7 @@ use Rattle.block_rules.specs.Codes.{Choice, dfcmChosen, Thrifty, written
 use Rattle.block_rules.specs.Block.{allResidualBytes, blockBy, block}
 use Rattle.block_rules.specs.Room.{Run, wordsFrom, joined, Cut, ofEqualWords, runCost, added, bound, closerCost, closerBound, times}
 use Rattle.block_rules.proofs.Codes.{written-small, rule-thrifty}
-use Rattle.block_rules.proofs.Learn.{Held, held-cleared, held-learn}
+use Rattle.block_rules.proofs.Learn.{Held, held-cleared, held-learn, held-after}
 use Rattle.block_rules.proofs.Lengths.{length-residuals, length-block-by}
 use Rattle.block_rules.proofs.Cost.{fcm-free, dfcm-free}
 use Rattle.block_rules.proofs.Settle.{update, settles}
@@ -171,10 +171,6 @@ module _ (choice : Choice) (thrifty : Thrifty choice) where
       either (eqb (d % 2 ^ 64) 0)
       (λ e. rw e (equal-run t d v (sum-none v d (l 0) (eqb-true _ _ e)) (suc (suc k)) m ws h))
       (λ e. rw (e, lt-leb (suc (suc k)) 1 (omega arith)) (steps-run t d (suc (suc k)) m v ws h (l 0)))
-
-  held-after : (t : ℕ) (ws : List ℕ) (m : Memory) → Held t m → Held t (after t m ws)
-  held-after t [] m h = h
-  held-after t (v ∷ vs) m h = held-after t vs (learn t m v) (held-learn t m v h)
 
   -- nor do runs, one after another; and a word costs at most 8 bytes
   all-runs : (t : ℕ) (rs : List Run) (m : Memory) → Held t m → Words (joined rs) → spent t m (joined rs) ≤ added (closerCost t) rs

@@ -31,7 +31,7 @@ use Rattle.exam_rules.proofs.Accept.{ReplaceTakes, AppendAllTakes, foretold}
 use Rattle.exam_rules.proofs.Kept.{found-part}
 use Rattle.exam_rules.proofs.Exchanged.{found-old}
 use Rattle.exam_rules.proofs.Staying.{SlotsFit}
-use Rattle.exams.proofs.Claims.{MadeOf, created, grown, exchanged, made-opens, made-fetches, packed-before-fetches, MadeBefore, earlier-opens, earlier-fetches, earlier-cut-is-never-whole, append-fetches, replace-fetches, replace-is-its-parts, replace-is-afresh, cut-is-never-whole, create-numbers, open-numbers, locate-numbers, fetch-numbers, append-numbers, replace-numbers, create-one-answer, fetch-one-answer, append-one-answer, replace-one-answer, fetch-forgets, append-forgets, replace-forgets, refused-create-changes-nothing, refused-locate-tells-nothing, refused-fetch-changes-nothing, refused-append-changes-nothing, refused-replace-changes-nothing, replace-exchanges, replace-keeps-trailer, replace-length, replace-keeps-slots, replace-keeps-blocks, replace-moves-later, replace-puts-block, freed-bytes-are-zero, replace-leaves-the-rest, located-entry, own-exam, located-has, fetch-accepts, append-accepts, replace-accepts, append-all-one-answer, append-all-answers, append-all-accepts, append-all-numbers, append-all-own-exam, append-all-forgets, refused-append-all-changes-nothing, append-all-of-none, append-all-of-one, OneAfterAnother, append-all-is-appends, ItsAppends, append-all-has-its-appends, append-all-counts, append-all-adds, append-all-keeps-slots, mapOf, append-all-fetches, made-append-all}
+use Rattle.exams.proofs.Claims.{MadeOf, created, grown, exchanged, made-opens, made-fetches, packed-before-fetches, MadeBefore, earlier-opens, earlier-fetches, earlier-cut-is-never-whole, append-fetches, replace-fetches, replace-is-its-parts, replace-is-afresh, cut-is-never-whole, create-numbers, open-numbers, locate-numbers, fetch-numbers, append-numbers, replace-numbers, create-one-answer, fetch-one-answer, append-one-answer, replace-one-answer, fetch-forgets, append-forgets, replace-forgets, refused-create-changes-nothing, refused-locate-tells-nothing, refused-fetch-changes-nothing, refused-append-changes-nothing, refused-replace-changes-nothing, replace-exchanges, replace-keeps-trailer, replace-length, replace-keeps-slots, replace-keeps-blocks, replace-moves-later, replace-puts-block, freed-bytes-are-zero, replace-leaves-the-rest, located-entry, own-exam, located-has, fetch-accepts, append-accepts, replace-accepts, append-all-one-answer, append-all-answers, append-all-accepts, append-all-numbers, append-all-own-exam, append-all-forgets, refused-append-all-changes-nothing, append-all-unopened, refused-record-changes-nothing, append-all-of-none, append-all-of-one, OneAfterAnother, append-all-is-appends, ItsAppends, append-all-has-its-appends, append-all-counts, append-all-opens, append-all-keeps-slots, mapOf, append-all-fetches, made-append-all}
 use Rattle.coil.specs.Calls.{CoilOpens, CoilChecks, CoilPacks, CoilUnpacks, CoilCreates, CoilFinds, CoilFetches, CoilAppends, CoilAppendsAll, CoilReplaces}
 
 -- ---- there and back
@@ -56,7 +56,7 @@ pub coil-append-fetches : {b : List ℕ} {l exam slot : ℕ} {words fcm dfcm ben
     → (s ≡ 0) × (n ≡ length words) × (room' ≡ over words room)
 coil-append-fetches h w v c e q lf ld enough = told (append-fetches h w v c e q lf ld enough)
 
--- So it gives back the words of each record that coil_append_all stored, though a later one was refused.
+-- So it gives back the words of each record that coil_append_all stored, even where a later one was refused.
 pub coil-append-all-fetches : (first : List Record) (x : Record) (rest : List Record) {b : List ℕ} {l exam : ℕ} {words fcm dfcm bench b' f' d' bench' f₂ d₂ room f₂' d₂' room' : List ℕ} {r k m s n : ℕ}
     → Bytes b → SlotsFit (first ++ x ∷ rest) → Words words → CoilAppendsAll b l exam (first ++ x ∷ rest) words fcm dfcm bench r b' f' d' bench' k m → length first < k
     → CoilFetches b' m exam (x .slot) f₂ d₂ room s f₂' d₂' room' n → length f₂ ≡ length fcm → length d₂ ≡ length dfcm → x .count ≤ length room
@@ -80,7 +80,7 @@ pub coil-append-makes : {exam t : ℕ} {ms : List Map} {b : List ℕ} {l slot : 
     → MadeOf exam t (ms ++ (record { slot = slot; words = words } ∷ [])) b' m
 coil-append-makes k s w c e = grown k s w c e
 
--- With coil_append_all it has a map more for each record that went in, though a later one was refused.
+-- With coil_append_all it has a map more for each record that went in, even where a later one was refused.
 pub coil-append-all-makes : {exam t : ℕ} {ms : List Map} {b : List ℕ} {l : ℕ} {records : List Record} {words fcm dfcm bench b' f' d' bench' : List ℕ} {r k m : ℕ}
     → MadeOf exam t ms b l → SlotsFit records → Words words → CoilAppendsAll b l exam records words fcm dfcm bench r b' f' d' bench' k m → (r ≡ 0) ⊎ (0 < k)
     → MadeOf exam t (ms ++ map (mapOf words) (take k records)) b' m
@@ -327,7 +327,7 @@ pub coil-refused-append : {b : List ℕ} {l exam slot : ℕ} {words fcm dfcm ben
     → (m ≡ 0) × (b' ≡ b) × (f' ≡ fcm) × (d' ≡ dfcm) × (bench' ≡ bench)
 coil-refused-append c h = refused-append-changes-nothing c h
 
--- A refused coil_append_all with none in. (Where some went in, they stay: see `coil-append-all-is-appends`.)
+-- A refused coil_append_all with none in. (Where some went in, they stay: see `coil-refused-record-changes-nothing`.)
 pub coil-refused-append-all : {b : List ℕ} {l exam : ℕ} {records : List Record} {words fcm dfcm bench b' f' d' bench' : List ℕ} {r k m : ℕ} → CoilAppendsAll b l exam records words fcm dfcm bench r b' f' d' bench' k m
     → (r ≡ 0 → ⊥) → k ≡ 0 → (m ≡ 0) × (b' ≡ b) × (f' ≡ fcm) × (d' ≡ dfcm) × (bench' ≡ bench)
 coil-refused-append-all c h z = refused-append-all-changes-nothing c h z
@@ -380,15 +380,28 @@ pub coil-append-all-accepts : {b : List ℕ} {l exam : ℕ} {records : List Reco
     → CoilAppendsAll b l exam records words fcm dfcm bench r b' f' d' bench' k m → (r ≡ 0) ↔ AppendAllTakes b l exam records words (length fcm) (length dfcm) (length bench)
 coil-append-all-accepts h w c = append-all-accepts h w c
 
--- No more maps go in than there are records, and all where it answers 0.
+-- No more maps go in than there are records, and all where it answers 0. Where the file opens and the call is refused there is a record at the place of the count: the
+-- refused one.
 pub coil-append-all-counts : {b : List ℕ} {l exam : ℕ} {records : List Record} {words fcm dfcm bench b' f' d' bench' : List ℕ} {r k m : ℕ} → CoilAppendsAll b l exam records words fcm dfcm bench r b' f' d' bench' k m
-    → (k ≤ length records) × (r ≡ 0 → k ≡ length records)
-coil-append-all-counts c = append-all-counts c
+    → (k ≤ length records) × (r ≡ 0 → k ≡ length records) × (CoilOpens b l exam 0 → (r ≡ 0 → ⊥) → k < length records)
+coil-append-all-counts c = let t = append-all-counts c in (t .0, t .1, λ o. t .2 (sym o))
+
+-- Where the file does not open, it answers coil_open's number, none in and length 0, whatever the records are, and changes nothing.
+pub coil-append-all-unopened : {b : List ℕ} {l exam : ℕ} {records : List Record} {words fcm dfcm bench b' f' d' bench' : List ℕ} {r k m : ℕ} {o : ℕ} → CoilAppendsAll b l exam records words fcm dfcm bench r b' f' d' bench' k m → CoilOpens b l exam o → (o ≡ 0 → ⊥)
+    → (r ≡ o) × (k ≡ 0) × (m ≡ 0) × (b' ≡ b) × (f' ≡ fcm) × (d' ≡ dfcm) × (bench' ≡ bench)
+coil-append-all-unopened c q h =
+    let a = append-all-unopened c (λ z. h (q ∙ z)) in
+    (ap (λ (x : Filled). x .number) (a .0) ∙ sym q, ap (λ (x : Filled). x .appended) (a .0), ap (λ (x : Filled). x .length) (a .0), a .1, a .2, a .3, a .4)
+
+-- A refused record changes nothing: where maps went in, the list of their records alone answers 0, as many in and the same length, and leaves the same.
+pub coil-refused-record-changes-nothing : {b : List ℕ} {l exam : ℕ} {records : List Record} {words fcm dfcm bench b' f' d' bench' : List ℕ} {r k m : ℕ} → CoilAppendsAll b l exam records words fcm dfcm bench r b' f' d' bench' k m → 0 < k
+    → CoilAppendsAll b l exam (take k records) words fcm dfcm bench 0 b' f' d' bench' k m
+coil-refused-record-changes-nothing c h = refused-record-changes-nothing c h
 
 -- Where it answers 0, or a map went in, the file that it leaves opens for the same exam number.
 pub coil-append-all-opens : {b : List ℕ} {l exam : ℕ} {records : List Record} {words fcm dfcm bench b' f' d' bench' : List ℕ} {r k m : ℕ} {o : ℕ} → Bytes b → SlotsFit records → CoilAppendsAll b l exam records words fcm dfcm bench r b' f' d' bench' k m
     → (r ≡ 0) ⊎ (0 < k) → CoilOpens b' m exam o → o ≡ 0
-coil-append-all-opens h w c e q = q ∙ append-all-adds h w c e
+coil-append-all-opens h w c e q = q ∙ append-all-opens h w c e
 
 -- And every slot that coil_find found before it finds afterwards, at the same offset and with the same length and bytes.
 pub coil-append-all-keeps-slots : {b : List ℕ} {l exam : ℕ} {records : List Record} {words fcm dfcm bench b' f' d' bench' : List ℕ} {r k m : ℕ} → Bytes b → SlotsFit records → CoilAppendsAll b l exam records words fcm dfcm bench r b' f' d' bench' k m → (r ≡ 0) ⊎ (0 < k)

@@ -203,7 +203,7 @@ module _ (a : Sources) (words : List ℕ) (s₀ : Lent) where
           use1 W (later (some (λ (x : ℕ × GName). ‵ (Theirs u8 (a .bench) (length (s₀ .bench)) (named 4) x (s .bench)) ⊛
           ‵ (benchKept x (s .bench))))) (lends u8 (a .bench) (length (s₀ .bench)) 𝓤 H A W (named 5) (s .bench) (same .bench) (named 4)) $ await ! tt $ pick ! (λ x₃.
           split ! $ fsplit ! $ move ! (3 ∷ []) $ fsplit ! $
-          -- [words; its token; of bench the token, the slice and what is kept; of dfcm; of fcm; of file]
+          -- the words and their token are in front; then, for bench, dfcm, fcm and file, the new token, the slice, what is kept
           use1 W (‵ WordsHeld ⊛ ‵ WordsHeld) (shr-slice-copy 𝓤 H A W (named 2) (a .words .lifetime) u64 .twice held (at (a .words) (length words) ∷ [])) $ split ! $
           owned ! u64 (Is u64) (uint-makes 𝓤 H A W w64) exam _ (refl, exam-fits) $
           owned ! record-row.the-row (Is record-row.the-row) (LL.makes record-row.the-type record-laws.the-plain 𝓤 H A) r _ is-r $

@@ -11,7 +11,7 @@ use Rattle.exam_rules.specs.Calls.{Lent, lent, lengthKept, Appends}
 use Rattle.exam_rules.specs.declared.Made.{Made}
 use Rattle.exam_rules.specs.declared.Record.{Record}
 use Rattle.exam_rules.proofs.Kept.{more-opens}
-use Rattle.exam_rules.proofs.Filling.{record-outside, record-appended}
+use Rattle.exam_rules.proofs.Filling.{record-outside, append-to-record}
 use Rattle.exam_records.specs.Inside.{AppendsRecord, refused, begun, gone, stepped, Steps}
 use Rattle.exam_records.specs.declared.Progress.{Progress}
 
@@ -27,7 +27,7 @@ module _ (exam : ℕ) (words : List ℕ) (r : Record) (l : ℕ) where
   within bytes small h o c =
       let many : r .first + r .count - r .first ≡ r .count = omega arith in
       let d = rw many at c in
-      record { outcome = record-appended words r l _ h o d; opens = λ z. more-opens bytes small d z }
+      record { outcome = append-to-record words r l _ h o d; opens = λ z. more-opens bytes small d z }
 
 -- ---- the progress
 

@@ -69,7 +69,7 @@ fn length_kept(appended: usize, length: usize) -> usize
     length
 }
 
-// Stops where a number is refused.
+// The progress at a refusal: it goes on to no more.
 fn refuse(number: u32, appended: usize, length: usize) -> Progress
     requires { ⌜ (number ≡ 0 → ⊥) ⌝ }
     ensures { λ r. ⌜ r ≡ refused number appended length ⌝ }
@@ -82,7 +82,7 @@ fn refuse(number: u32, appended: usize, length: usize) -> Progress
     }
 }
 
-// Opens the file, before the first of n records. The directory is read here and not again: what
+// Opens the file, before the first of n records. The directory is checked here and not again: what
 // append leaves of a file that opens is a file that opens. The file is only read; it is lent as `step`
 // is lent it, so that both are walked alike.
 pub fn begin(file: &mut [u8], length: usize, exam: u64, n: usize) -> Progress

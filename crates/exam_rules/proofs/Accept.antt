@@ -348,7 +348,7 @@ module _ (words : List ℕ) (t f d buffer bench : ℕ) where
     a-record : {entries next l : ℕ} {r : Record} {rs : List Record} → RecordTakes r (length words) entries next t f d l buffer bench
         → RecordsTake (entries + 1) (r .slot + 1) (l + 12 + length (block t (wordsOf r words))) rs → RecordsTake entries next l (r ∷ rs)
 
-  -- what append_all answers for records, from numbers alone: so many entries, the lowest slot that may come next, k maps in before and l bytes. After a record
+  -- what append_all answers for records, from what is given alone: so many entries, the lowest slot that may come next, k maps in before and l bytes. After a record
   -- that goes in there is an entry more, the next slot is above its own, and the file is longer by an entry and its block
   unfoldable pub foretold : (entries next k l : ℕ) → List Record → Filled
   foretold entries next k l [] = filled 0 k l

@@ -15,7 +15,7 @@ use Rattle.exam_rules.specs.Numbers.{entriesNumber, directoryNumber, fie
 use Rattle.exam_rules.specs.Calls.{Lent, appendsNumber, AppendsAll}
 use Rattle.exam_rules.specs.declared.Record.{Record}
 use Rattle.exam_rules.specs.declared.Filled.{Filled}
-use Rattle.exam_rules.proofs.Chain.{Goes, done, stops, went, all-fills, all-unopened}
+use Rattle.exam_rules.proofs.Chain.{Goes, done, stopped, went, all-fills, all-unopened}
 
 entries-one-of : (test : ℕ → ℕ → Bool) (lowest from : ℕ) (es : List Entry) (to : ℕ) → List·Mem (entriesNumber test lowest from es to) (0 ∷ 9 ∷ [])
 entries-one-of test lowest from [] to = unless-one-of (test from to) 9 refl
@@ -90,7 +90,7 @@ record-one-of r words k next t f d l buffer bench =
 
 goes-one-of : {words : List ℕ} {rs : List Record} {l : ℕ} {s : Lent} {n k l' : ℕ} {s' : Lent} → Goes words rs l s n k l' s' → List·Mem n (0 ∷ 15 ∷ 12 ∷ 11 ∷ 1 ∷ 2 ∷ 3 ∷ [])
 goes-one-of done = mem-cons-self
-goes-one-of (stops e h) = mem-cast e (record-one-of _ _ _ _ _ _ _ _ _ _)
+goes-one-of (stopped e h) = mem-cast e (record-one-of _ _ _ _ _ _ _ _ _ _)
 goes-one-of (went e z g) = goes-one-of g
 
 pub append-all-one-of : {b : List ℕ} {l exam : ℕ} {records : List Record} {words fcm dfcm bench b' f' d' bench' : List ℕ} {a : Filled}

@@ -75,16 +75,16 @@ module _ (words : List ℕ) (r : Record) (l : ℕ) (s : Lent) where
 
     -- and is what append answers for them, and leaves
     module _ {exam : ℕ} (o : openInNumber (s .file) l exam ≡ 0) {m : Made} {b' fcm' dfcm' bench' : List ℕ} where
-      pub record-appended : Appends (s .file) l exam (r .slot) (wordsOf r words) (s .fcm) (s .dfcm) (s .bench) m b' fcm' dfcm' bench'
+      pub append-to-record : Appends (s .file) l exam (r .slot) (wordsOf r words) (s .fcm) (s .dfcm) (s .bench) m b' fcm' dfcm' bench'
           → (m, lent b' fcm' dfcm' bench') ≡ recordAppended words r l s
       unfolding recordAppended
-      record-appended c =
+      append-to-record c =
           rw (record-number exam o, each-left (appendsNumber (s .file) l exam (r .slot) (wordsOf r words) (s .fcm) (s .dfcm) (s .bench)) _ s, c .file .answer, c .file .fileLeft, c .fcmLeft, c .dfcmLeft, c .benchLeft) refl
 
-      pub appended-record : (m, lent b' fcm' dfcm' bench') ≡ recordAppended words r l s
+      pub record-to-append : (m, lent b' fcm' dfcm' bench') ≡ recordAppended words r l s
           → Appends (s .file) l exam (r .slot) (wordsOf r words) (s .fcm) (s .dfcm) (s .bench) m b' fcm' dfcm' bench'
       unfolding recordAppended
-      appended-record e =
+      record-to-append e =
           let p = parts (rw (record-number exam o, each-left (appendsNumber (s .file) l exam (r .slot) (wordsOf r words) (s .fcm) (s .dfcm) (s .bench)) _ s) at e) in
           record { file = record { answer = p .0; fileLeft = p .1 }; fcmLeft = p .2; dfcmLeft = p .3; benchLeft = p .4 }
 
@@ -92,16 +92,16 @@ module _ (words : List ℕ) (r : Record) (l : ℕ) (s : Lent) where
 
 module _ (words : List ℕ) (r : Record) (rs : List Record) (k l : ℕ) (s : Lent) where
   -- one that was appended: the others follow
-  pub each-more : recordAppended words r l s .0 .number ≡ 0
+  pub each-goes-on : recordAppended words r l s .0 .number ≡ 0
       → eachAppended words (r ∷ rs) k l s ≡ eachAppended words rs (k + 1) (recordAppended words r l s .0 .length) (recordAppended words r l s .1)
   unfolding eachAppended
-  each-more z = afterwards-new _ _ _ z
+  each-goes-on z = afterwards-new _ _ _ z
 
   -- one that was refused: the call ends
-  pub each-ends : (recordAppended words r l s .0 .number ≡ 0 → ⊥)
+  pub each-stops : (recordAppended words r l s .0 .number ≡ 0 → ⊥)
       → eachAppended words (r ∷ rs) k l s ≡ (filled (recordAppended words r l s .0 .number) k l, recordAppended words r l s .1)
   unfolding eachAppended
-  each-ends h = afterwards-old _ _ _ h
+  each-stops h = afterwards-old _ _ _ h
 
 pub each-none : (words : List ℕ) (k l : ℕ) (s : Lent) → eachAppended words [] k l s ≡ (filled 0 k l, s)
 unfolding eachAppended
@@ -115,11 +115,11 @@ unfolding afterwards
 each-one words r l s =
     let p = recordAppended words r l s in
     let n = p .0 .number in
-    either (eqb n 0) (λ q. let z = eqb-true n 0 q in each-more words r [] 0 l s z ∙ each-none words 1 (p .0 .length) (p .1) ∙ rw z)
+    either (eqb n 0) (λ q. let z = eqb-true n 0 q in each-goes-on words r [] 0 l s z ∙ each-none words 1 (p .0 .length) (p .1) ∙ rw z)
     (λ q.
     let h = eqb-false n 0 q in
     let x = record-refused words r l s n (record-numbered words r l s) h in
-    each-ends words r [] 0 l s h ∙ rw (afterwards-old {A = ℕ} n 1 0 h, afterwards-old {A = ℕ} n l 0 h, ap (λ (y : Made × Lent). y .0 .length) x))
+    each-stops words r [] 0 l s h ∙ rw (afterwards-old {A = ℕ} n 1 0 h, afterwards-old {A = ℕ} n l 0 h, ap (λ (y : Made × Lent). y .0 .length) x))
 
 -- ---- all of them
 

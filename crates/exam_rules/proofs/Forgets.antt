@@ -12,7 +12,7 @@ use Rattle.exam_rules.specs.Numbers.{openInNumber}
 use Rattle.exam_rules.specs.Calls.{Lent, lent, recordAppendsNumber, recordAppended, eachAppended, allAppended}
 use Rattle.exam_rules.specs.declared.Made.{Made}
 use Rattle.exam_rules.specs.declared.Record.{Record}
-use Rattle.exam_rules.proofs.Filling.{record-numbered, record-refused, each-more, each-ends, each-none, all-opened, all-refused}
+use Rattle.exam_rules.proofs.Filling.{record-numbered, record-refused, each-goes-on, each-stops, each-none, all-opened, all-refused}
 
 module _ (words : List ℕ) (l : ℕ) (b bench f₁ d₁ f₂ d₂ : List ℕ) (f : length f₁ ≡ length f₂) (d : length d₁ ≡ length d₂) where
   abbrev one : Lent
@@ -40,15 +40,15 @@ module _ (words : List ℕ) (l : ℕ) (b bench f₁ d₁ f₂ d₂ : List ℕ) (
       (λ q.
       let z = eqb-true n 0 q in
       let e : eachAppended words (r ∷ rs) 0 l one ≡ eachAppended words (r ∷ rs) 0 l other =
-      each-more words r rs 0 l one (record-numbered words r l one ∙ same-number r ∙ z)
+      each-goes-on words r rs 0 l one (record-numbered words r l one ∙ same-number r ∙ z)
       ∙ ap (λ (p : Made × Lent). eachAppended words rs (0 + 1) (p .0 .length) (p .1)) (record-forgets r z)
-      ∙ sym (each-more words r rs 0 l other (record-numbered words r l other ∙ z)) in
+      ∙ sym (each-goes-on words r rs 0 l other (record-numbered words r l other ∙ z)) in
       rw e (refl, refl, refl, λ h. refl))
       (λ q.
       let h = eqb-false n 0 q in
       let x = record-refused words r l one n (sym (same-number r)) h in
       let y = record-refused words r l other n refl h in
-      rw (each-ends words r rs 0 l one (rw x h), each-ends words r rs 0 l other (rw y h), x, y) (refl, refl, refl, λ k. absurd (omega arith)))
+      rw (each-stops words r rs 0 l one (rw x h), each-stops words r rs 0 l other (rw y h), x, y) (refl, refl, refl, λ k. absurd (omega arith)))
 
   pub all-forgets : (exam : ℕ) (rs : List Record)
       → (allAppended l exam rs words one .0 ≡ allAppended l exam rs words other .0)

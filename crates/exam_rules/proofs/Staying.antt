@@ -11,9 +11,9 @@ use Rattle.words.proofs.Each.{Each, more}
 use Rattle.words.proofs.Bytes.{bytes-take}
 use Rattle.answers.specs.Answers.{over}
 use Rattle.answers.proofs.Checks.{unless-holds, none-fails, afterwards-new, afterwards-old}
-use Rattle.block_rules.specs.Predictors.{Memory, cleared, learn, after}
+use Rattle.block_rules.specs.Predictors.{cleared}
 use Rattle.block_rules.specs.Block.{block}
-use Rattle.block_rules.proofs.Learn.{Held, held-cleared, held-learn}
+use Rattle.block_rules.proofs.Learn.{held-cleared, held-after}
 use Rattle.block_rules.proofs.Lengths.{block-at-most}
 use Rattle.exam_rules.specs.File.{Entry, entry, File, fileBytes, appended}
 use Rattle.exam_rules.specs.Reading.{fileIn, entryOf}
@@ -25,8 +25,8 @@ use Rattle.exam_rules.proofs.Opens.{opens-in, parts-long}
 use Rattle.exam_rules.proofs.Lengths.{length-file}
 use Rattle.exam_rules.proofs.Changes.{changes-number}
 use Rattle.exam_rules.proofs.Accept.{append-takes, foretold}
-use Rattle.exam_rules.proofs.Filling.{record-numbered, words-long, appended-record}
-use Rattle.exam_rules.proofs.Chain.{Goes, done, stops, went}
+use Rattle.exam_rules.proofs.Filling.{record-numbered, words-long, record-to-append}
+use Rattle.exam_rules.proofs.Chain.{Goes, done, stopped, went}
 use Rattle.exam_rules.proofs.Back.{Good}
 use Rattle.exam_rules.proofs.Holds.{Holds, holds-length, holds-parts, holds-opens, appended-holds}
 use Rattle.exam_rules.proofs.Kept.{good-read, good-opens, good-keeps, good-finds}
@@ -59,17 +59,13 @@ unfolding recordNumber
 it-went exam words r l s o e z =
     let n : recordAppendsNumber words r l s ≡ 0 = sym (ap (λ (p : Made × Lent). p .0 .number) e ∙ record-numbered words r l s) ∙ z in
     let h : r .first + r .count ≤ length words = leb-true _ _ (unless-holds _ _ (none-fails _ _ n .0) (omega arith)) in
-    record { inside = h; appends = appended-record words r l s h o e }
+    record { inside = h; appends = record-to-append words r l s h o e }
 
 -- ---- what an append leaves, in numbers
 
 next-after : (lowest : ℕ) (es : List Entry) (e : Entry) → nextSlot lowest (es ++ (e ∷ [])) ≡ e .slot + 1
 next-after lowest [] e = refl
 next-after lowest (x ∷ es) e = next-after (x .slot + 1) es e
-
-held-after : (t : ℕ) (m : Memory) (ws : List ℕ) → Held t m → Held t (after t m ws)
-held-after t m [] h = h
-held-after t m (w ∷ ws) h = held-after t (learn t m w) ws (held-learn t m w h)
 
 over-long : (x b : List ℕ) → length x ≤ length b → length (over x b) ≡ length b
 over-long x b h = length-append x (drop (length x) b) ∙ rw length-drop (omega arith)
@@ -95,7 +91,7 @@ leaves {b} {l} {exam} {slot} {words} {fcm} {dfcm} {bench} {m = m} f w c z =
     let p = holds-parts h in
     let n : appendsNumber b l exam slot words fcm dfcm bench ≡ 0 = sym (changes-number (c .file)) ∙ z in
     let k = append-takes b l exam slot words fcm dfcm bench n in
-    let held = held-after (old .t) (cleared (old .t)) words (held-cleared (old .t)) in
+    let held = held-after (old .t) words (cleared (old .t)) (held-cleared (old .t)) in
     let o = opens-in b l exam (f .opens) in
     let one : length (old .entries ++ (x ∷ [])) ≡ length (old .entries) + 1 = length-append (old .entries) (x ∷ []) in
     let long : m .length ≡ l + 12 + length blk =
@@ -121,7 +117,7 @@ SlotsFit rs = Each (λ (r : Record). r .slot < 2 ^ 32) rs
 pub goes-fillable : {words : List ℕ} {rs : List Record} {l : ℕ} {s : Lent} {n k l' : ℕ} {s' : Lent} {exam : ℕ} → Goes words rs l s n k l' s' → Fillable (s .file) l exam → SlotsFit rs
     → Fillable (s' .file) l' exam
 goes-fillable done f w = f
-goes-fillable (stops e h) f w = f
+goes-fillable (stopped e h) f w = f
 goes-fillable {words} {exam = exam} (went {r = r} {l = l} {s = s} e z g) f (more w ws) = goes-fillable g (appended-fillable f w (it-went exam words r l s (f .opens) e z .appends) z) ws
 
 -- a slot that was found is found, with the same entry and the same block
@@ -129,7 +125,7 @@ pub goes-keeps : {words : List ℕ} {rs : List Record} {l : ℕ} {s : Lent} {n k
     → (x : ℕ) → findNumber (s .file) l exam x ≡ 0
     → (findNumber (s' .file) l' exam x ≡ 0) × (entryOf x (fileIn (take l' (s' .file))) ≡ entryOf x (fileIn (take l (s .file)))) × (blockIn (s' .file) l' x ≡ blockIn (s .file) l x)
 goes-keeps done f w x y = (y, refl, refl)
-goes-keeps (stops e h) f w x y = (y, refl, refl)
+goes-keeps (stopped e h) f w x y = (y, refl, refl)
 goes-keeps {words} {exam = exam} (went {r = r} {l = l} {s = s} e z g) f (more w ws) x y =
     let c = it-went exam words r l s (f .opens) e z .appends in
     let a = good-keeps (f .good) w c z x y in
@@ -140,13 +136,13 @@ goes-keeps {words} {exam = exam} (went {r = r} {l = l} {s = s} e z g) f (more w 
 goes-t : {words : List ℕ} {rs : List Record} {l : ℕ} {s : Lent} {n k l' : ℕ} {s' : Lent} {exam : ℕ} → Goes words rs l s n k l' s' → Fillable (s .file) l exam → SlotsFit rs
     → fileIn (take l' (s' .file)) .t ≡ fileIn (take l (s .file)) .t
 goes-t done f w = refl
-goes-t (stops e h) f w = refl
+goes-t (stopped e h) f w = refl
 goes-t {words} {exam = exam} (went {r = r} {l = l} {s = s} e z g) f (more w ws) =
     let c = it-went exam words r l s (f .opens) e z .appends in
     goes-t g (appended-fillable f w c z) ws ∙ leaves f w c z .t
 
 -- a record that went in, in the file that is left: its slot is found, with the block of its words
-pub record Inside (exam : ℕ) (words : List ℕ) (r : Record) (t : ℕ) (b : List ℕ) (l : ℕ) : Type 0 where
+pub record WentIn (exam : ℕ) (words : List ℕ) (r : Record) (t : ℕ) (b : List ℕ) (l : ℕ) : Type 0 where
   pub found : findNumber b l exam (r .slot) ≡ 0
   pub is : blockIn b l (r .slot) ≡ block t (wordsOf r words)
   pub t-is : fileIn (take l b) .t ≡ t
@@ -154,8 +150,8 @@ pub record Inside (exam : ℕ) (words : List ℕ) (r : Record) (t : ℕ) (b : Li
   pub few : r .count ≤ 65536
 
 pub goes-in : {words : List ℕ} (first : List Record) (r : Record) (rest : List Record) {l : ℕ} {s : Lent} {n k l' : ℕ} {s' : Lent} {exam : ℕ} → Goes words (first ++ r ∷ rest) l s n k l' s'
-    → Fillable (s .file) l exam → SlotsFit (first ++ r ∷ rest) → length first < k → Inside exam words r (fileIn (take l (s .file)) .t) (s' .file) l'
-goes-in [] r rest (stops e h) f w less = absurd (omega arith)
+    → Fillable (s .file) l exam → SlotsFit (first ++ r ∷ rest) → length first < k → WentIn exam words r (fileIn (take l (s .file)) .t) (s' .file) l'
+goes-in [] r rest (stopped e h) f w less = absurd (omega arith)
 goes-in {words} [] r rest {exam = exam} (went {l = l} {s = s} e z g) f (more w ws) less =
     let i = it-went exam words r l s (f .opens) e z in
     let c = i .appends in
@@ -169,7 +165,7 @@ goes-in {words} [] r rest {exam = exam} (went {l = l} {s = s} e z g) f (more w w
       long = long;
       few = omega (arith, long, append-takes (s .file) l exam (r .slot) (wordsOf r words) (s .fcm) (s .dfcm) (s .bench) (sym (changes-number (c .file)) ∙ z) .fewWords);
     }
-goes-in (x ∷ first) r rest (stops e h) f w less = absurd (omega arith)
+goes-in (x ∷ first) r rest (stopped e h) f w less = absurd (omega arith)
 goes-in {words} (x ∷ first) r rest {exam = exam} (went {l = l} {s = s} e z g) f (more w ws) less =
     let c = it-went exam words x l s (f .opens) e z .appends in
     rw (leaves f w c z .t) at (goes-in first r rest g (appended-fillable f w c z) ws (omega arith))
@@ -178,7 +174,7 @@ goes-in {words} (x ∷ first) r rest {exam = exam} (went {l = l} {s = s} e z g) 
 pub goes-sized : {words : List ℕ} {rs : List Record} {l : ℕ} {s : Lent} {n k l' : ℕ} {s' : Lent} {exam : ℕ} → Goes words rs l s n k l' s' → Fillable (s .file) l exam → 0 < k
     → (length (s .fcm) ≡ 2 ^ fileIn (take l (s .file)) .t) × (length (s .dfcm) ≡ 2 ^ fileIn (take l (s .file)) .t)
 goes-sized done f h = absurd (omega arith)
-goes-sized (stops e u) f h = absurd (omega arith)
+goes-sized (stopped e u) f h = absurd (omega arith)
 goes-sized {words} {exam = exam} (went {r = r} {l = l} {s = s} e z g) f h =
     let c = it-went exam words r l s (f .opens) e z .appends in
     let k = append-takes (s .file) l exam (r .slot) (wordsOf r words) (s .fcm) (s .dfcm) (s .bench) (sym (changes-number (c .file)) ∙ z) in
@@ -191,7 +187,7 @@ pub goes-foretold : {words : List ℕ} {rs : List Record} {l : ℕ} {s : Lent} {
     (nextSlot 0 (fileIn (take l (s .file)) .entries)) j l rs
 unfolding foretold recordNumber
 goes-foretold done f w j = rw (add-zero j)
-goes-foretold {words} (stops {r = r} {l = l} {s = s} e h) f w j = rw (add-zero j) (ap (λ (i : ℕ). filled i j l) e ∙ sym (afterwards-old _ _ _ (λ z. h (e ∙ z))))
+goes-foretold {words} (stopped {r = r} {l = l} {s = s} e h) f w j = rw (add-zero j) (ap (λ (i : ℕ). filled i j l) e ∙ sym (afterwards-old _ _ _ (λ z. h (e ∙ z))))
 goes-foretold {words} {exam = exam} (went {r = r} {l = l} {s = s} {k = k} e z g) f (more w ws) j =
     let c = it-went exam words r l s (f .opens) e z .appends in
     let v = leaves f w c z in

@@ -187,7 +187,7 @@ module _ (words : List ℕ) (r : Record) (l : ℕ) (s : Lent) where
 abbrev pub lengthKept : ℕ → ℕ → ℕ
 lengthKept k l = cond (eqb k 0) 0 l
 
--- what append_all answers then
+-- what append_all answers with a number, where k maps went in and the file has l bytes then
 abbrev pub filled : ℕ → ℕ → ℕ → Filled
 filled number k l = record { number = number; appended = k; length = afterwards number l (lengthKept k l) }
 

@@ -40,10 +40,10 @@ use Rattle.exam_rules.proofs.Pieces.{created-pieces, appended-pieces, block-fet
 use Rattle.exam_rules.proofs.Maps.{Fit, reads-by, map-reads, maps-whole, maps-piece, alike-holds, changed-at, changed-maps, changed-fit}
 use Rattle.exam_rules.proofs.Cut.{never-all-whole}
 use Rattle.exam_rules.proofs.Kept.{found-long, found-size, found-within, found-part, more-holds, more-opens, slot-kept, slot-new}
-use Rattle.exam_rules.proofs.Filling.{words-of, record-numbered, record-refused, record-outside, record-appended, appended-record, each-none, each-one, all-opened}
+use Rattle.exam_rules.proofs.Filling.{words-of, record-numbered, record-refused, record-outside, append-to-record, record-to-append, each-none, each-one, all-opened}
 use Rattle.exam_rules.proofs.Forgets.{all-forgets}
-use Rattle.exam_rules.proofs.Chain.{Goes, done, stops, went, goes-answers, all-fills, all-unopened, all-open, all-none, all-many, all-length}
-use Rattle.exam_rules.proofs.Staying.{read-fillable, holds-fillable, appended-fillable, it-went, Fillable, SlotsFit, Inside, goes-fillable, goes-keeps, goes-in, goes-sized, goes-foretold}
+use Rattle.exam_rules.proofs.Chain.{Goes, done, stopped, went, goes-answers, all-fills, all-unopened, all-open, all-none, all-many, all-length, all-alone}
+use Rattle.exam_rules.proofs.Staying.{read-fillable, holds-fillable, appended-fillable, it-went, Fillable, SlotsFit, WentIn, goes-fillable, goes-keeps, goes-in, goes-sized, goes-foretold}
 use Rattle.exam_rules.proofs.Resized.{length-resized}
 use Rattle.exam_rules.proofs.Exchanged.{exchanged-holds, exchanged-opens, exchanged-length, same-slots, kept-beside, place-before, place-behind, slot-entry, slot-exchanged, freed-zero, beyond-stays}
 
@@ -152,6 +152,15 @@ append-all-answers {b} {l} {exam} h w e c =
     let o = sym (opened-number b l exam) ∙ e in
     let g = all-fills c o in
     g .answer ∙ rw zero-add at (goes-foretold (g .goes) (read-fillable b l exam h o) w 0)
+
+-- Where it does not open, append_all answers open's number, none in and length 0, whatever the records are, and changes nothing.
+pub append-all-unopened : {b : List ℕ} {l exam : ℕ} {records : List Record} {words fcm dfcm bench b' f' d' bench' : List ℕ} {a : Filled} → AppendsAll b l exam records words fcm dfcm bench a b' f' d' bench'
+    → (openedNumber (opened b l exam) ≡ 0 → ⊥) → (a ≡ record { number = openedNumber (opened b l exam); appended = 0; length = 0 }) × (b' ≡ b) × (f' ≡ fcm) × (d' ≡ dfcm) × (bench' ≡ bench)
+append-all-unopened {b} {l} {exam} c h =
+    let n = openInNumber b l exam in
+    let u : n ≡ 0 → ⊥ = λ z. h (opened-number b l exam ∙ z) in
+    let x = all-unopened c u in
+    (x .0 ∙ rw (opened-number b l exam, afterwards-old {A = ℕ} n l 0 u), x .1, x .2, x .3, x .4)
 
 -- Append_all answers 0 just where the file opens and each record has what it needs.
 pub append-all-accepts : {b : List ℕ} {l exam : ℕ} {records : List Record} {words fcm dfcm bench b' f' d' bench' : List ℕ} {a : Filled} → Bytes b → SlotsFit records
@@ -545,7 +554,7 @@ append-all-of-one {b} {l} {exam} {r} {words} {fcm} {dfcm} {bench} h c =
     (λ q.
     let o = eqb-true n 0 q in
     let e = all-opened l exam (r ∷ []) words s o ∙ each-one words r l s in
-    rw (c .answer, c .fileLeft, c .fcmLeft, c .dfcmLeft, c .benchLeft, e) (appended-record words r l s h o refl, refl))
+    rw (c .answer, c .fileLeft, c .fcmLeft, c .dfcmLeft, c .benchLeft, e) (record-to-append words r l s h o refl, refl))
     (λ q.
     let u = eqb-false n 0 q in
     let x = all-unopened c u in
@@ -568,20 +577,20 @@ they-go : {exam : ℕ} {words : List ℕ} {rs : List Record} {l n k l' : ℕ} {s
     → Goes words rs l s n k l' s'
 they-go no-more f w = done
 they-go {words = words} (beyond {r = r} {l = l} {s = s} h) f w =
-    stops (sym (ap (λ (p : Made × Lent). p .0 .number) (record-outside words r l s h)) ∙ record-numbered words r l s) (λ z. omega arith)
+    stopped (sym (ap (λ (p : Made × Lent). p .0 .number) (record-outside words r l s h)) ∙ record-numbered words r l s) (λ z. omega arith)
 they-go {exam} {words} (refused {r = r} {l = l} {s = s} {m = m} h c u) f w =
-    let e = record-appended words r l s h {exam = exam} (f .opens) c in
+    let e = append-to-record words r l s h {exam = exam} (f .opens) c in
     let n = ap (λ (p : Made × Lent). p .0 .number) e ∙ record-numbered words r l s in
-    rw (ap (λ (p : Made × Lent). p .1) (e ∙ record-refused words r l s (m .number) n u)) (stops n u)
-they-go {exam} {words} (went-in {r = r} {l = l} {s = s} h c z g) f (more w ws) = went (record-appended words r l s h {exam = exam} (f .opens) c) z (they-go g (appended-fillable f w c z) ws)
+    rw (ap (λ (p : Made × Lent). p .1) (e ∙ record-refused words r l s (m .number) n u)) (stopped n u)
+they-go {exam} {words} (went-in {r = r} {l = l} {s = s} h c z g) f (more w ws) = went (append-to-record words r l s h {exam = exam} (f .opens) c) z (they-go g (appended-fillable f w c z) ws)
 
 are-appends : {words : List ℕ} {rs : List Record} {l n k l' : ℕ} {s s' : Lent} {exam : ℕ} → Goes words rs l s n k l' s' → Fillable (s .file) l exam → SlotsFit rs
     → OneAfterAnother exam words rs l s n k l' s'
 are-appends done f w = no-more
-are-appends {words} {exam = exam} (stops {r = r} {l = l} {s = s} {n = n} e u) f w =
+are-appends {words} {exam = exam} (stopped {r = r} {l = l} {s = s} {n = n} e u) f w =
     let x = record-refused words r l s n e u in
     either (leb (r .first + r .count) (length words))
-    (λ q. let h = leb-true _ _ q in refused {m = record { number = n; length = 0 }} h (appended-record words r l s h (f .opens) (sym x)) u)
+    (λ q. let h = leb-true _ _ q in refused {m = record { number = n; length = 0 }} h (record-to-append words r l s h (f .opens) (sym x)) u)
     (λ q.
     let h = leb-false _ _ q in
     rw (ap (λ (p : Made × Lent). p .0 .number) (sym x ∙ record-outside words r l s h)) (beyond h))
@@ -613,15 +622,22 @@ append-all-has-its-appends {b} {l} {exam} h w e c =
     let g = all-fills c o in
     record { reached = g .reached; appends = are-appends (g .goes) (read-fillable b l exam h o) w; answer = g .answer }
 
--- No more maps go in than there are records, and all where none is refused.
+-- No more maps go in than there are records, and all where none is refused. Where the file opens and the call is refused there is a record at the place of the count:
+-- the refused one.
 pub append-all-counts : {b : List ℕ} {l exam : ℕ} {records : List Record} {words fcm dfcm bench b' f' d' bench' : List ℕ} {a : Filled} → AppendsAll b l exam records words fcm dfcm bench a b' f' d' bench'
     → (a .appended ≤ length records) × (a .number ≡ 0 → a .appended ≡ length records)
-append-all-counts c = all-many c
+    × (openedNumber (opened b l exam) ≡ 0 → (a .number ≡ 0 → ⊥) → a .appended < length records)
+append-all-counts {b} {l} {exam} c = let t = all-many c in (t .0, t .1, λ o. t .2 (sym (opened-number b l exam) ∙ o))
+
+-- A refused record changes nothing: where maps went in, the list of their records alone answers 0, as many in and the same length, and leaves the same.
+pub refused-record-changes-nothing : {b : List ℕ} {l exam : ℕ} {records : List Record} {words fcm dfcm bench b' f' d' bench' : List ℕ} {a : Filled} → AppendsAll b l exam records words fcm dfcm bench a b' f' d' bench' → 0 < a .appended
+    → AppendsAll b l exam (take (a .appended) records) words fcm dfcm bench (record { number = 0; appended = a .appended; length = a .length }) b' f' d' bench'
+refused-record-changes-nothing c h = all-alone c h
 
 -- Where it answers 0, or a map went in, the file that is left opens for the same exam number.
-pub append-all-adds : {b : List ℕ} {l exam : ℕ} {records : List Record} {words fcm dfcm bench b' f' d' bench' : List ℕ} {a : Filled} → Bytes b → SlotsFit records
+pub append-all-opens : {b : List ℕ} {l exam : ℕ} {records : List Record} {words fcm dfcm bench b' f' d' bench' : List ℕ} {a : Filled} → Bytes b → SlotsFit records
     → AppendsAll b l exam records words fcm dfcm bench a b' f' d' bench' → (a .number ≡ 0) ⊎ (0 < a .appended) → openedNumber (opened b' (a .length) exam) ≡ 0
-append-all-adds {b} {l} {exam} {b' = b'} {a = a} h w c e =
+append-all-opens {b} {l} {exam} {b' = b'} {a = a} h w c e =
     let o = all-open c e in
     let g = all-fills c o in
     opened-number b' (a .length) exam ∙ rw (all-length c e g) (goes-fillable (g .goes) (read-fillable b l exam h o) w .opens)
@@ -650,7 +666,7 @@ append-all-fetches first r rest {b} {l} {exam} {words} {b' = b'} {room = room} {
     let o = all-open c some in
     let f = read-fillable b l exam h o in
     let g = all-fills c o in
-    let i : Inside exam words r t b' (a .length) = rw (all-length c some g) (goes-in first r rest (g .goes) f w less) in
+    let i : WentIn exam words r t b' (a .length) = rw (all-length c some g) (goes-in first r rest (g .goes) f w less) in
     let sized = goes-sized (g .goes) f (omega (arith, less)) in
     let reads = map-reads t (mapOf words r) (record { few = omega (arith, i .long, i .few); wide = words-of r words v }) in
     let x = block-fetched t (block t (wordsOf r words)) (i .found) (i .is) (i .t-is) reads q (lf ∙ sized .0) (ld ∙ sized .1) (omega (arith, i .long, enough)) in

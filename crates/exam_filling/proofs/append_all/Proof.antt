@@ -65,7 +65,7 @@ use Rattle.exam_records.proofs.begin.Met as begin-thm
 use Rattle.exam_records.proofs.step.Symbol as step-def
 use Rattle.exam_records.proofs.step.Symbol.{name as #step}
 use Rattle.exam_records.proofs.step.Met as step-thm
-use Rattle.exam_filling.proofs.Progress.{none, answer, finish, over, Turned, turned, begins, started}
+use Rattle.exam_filling.proofs.Progress.{noRecord, answer, finish, ended, Turned, turned, begins, started}
 use Rattle.exam_filling.proofs.Operands.{the-local, the-field}
 use Rattle.exam_filling.proofs.Lending.{Source, source}
 use Rattle.exam_filling.proofs.Calls.{recordVal, progressVal, Begin, Step, Same, Rooms, Sources, Names, All, to-step, Rest, asks, Stepped, answers, to-begin, FileOurs, FileKept, asks-begin, answers-begin}
@@ -307,7 +307,7 @@ module _ {M : Type 1} (𝓤 : URA M) (H : Heap 𝓤) (A : Atoms 𝓤) (W : Given
         returns ! (look ! (spot 4 0) refl) $ forget ! (spot 4 13) refl $ forget ! (spot 4 9) refl $ forget ! (spot 4 8) refl $ forget ! (spot 4 7) refl $
         forget ! (spot 4 6) refl $ forget ! (spot 4 5) refl $ forget ! (spot 4 4) refl $ forget ! (spot 4 3) refl $ forget ! (spot 4 2) refl $
         forget ! (spot 4 1) refl $ forget ! (spot 4 0) refl $
-        leaves (answer (t .p)) (t .s) (over words rs (t .p) (t .s) past ∙ t .left) (t .same) is
+        leaves (answer (t .p)) (t .s) (ended words rs (t .p) (t .s) past ∙ t .left) (t .same) is
       where
         is : Is filled-row.the-row (answer (t .p)) (filledVal (answer (t .p)) ∷ [])
         is =
@@ -317,7 +317,7 @@ module _ {M : Type 1} (𝓤 : URA M) (H : Heap 𝓤) (A : Atoms 𝓤) (W : Given
     -- a turn that goes on by a record
     module _ (t : State words rs l exam s₀) (less : ltb (t .p .appended) (t .p .stop) ≡ true) where
       abbrev item : Record
-      item = getD rs (t .p .appended) none
+      item = getD rs (t .p .appended) noRecord
 
       below : t .p .appended < t .p .stop
       below = ltb-true (t .p .appended) (t .p .stop) less
@@ -375,11 +375,11 @@ module _ {M : Type 1} (𝓤 : URA M) (H : Heap 𝓤) (A : Atoms 𝓤) (W : Given
           (LL.tells record-row.the-type record-laws.the-laws) (LL.copy record-row.the-type record-laws.the-copy 𝓤 H A W) rs (a .records .place) (a .records .offset)
           (λ q.
           elem-out ! record-row.the-row (Is record-row.the-row) (shows 𝓤 H A record-row.the-row) (LL.vals record-row.the-type record-laws.the-laws)
-          (LL.tells record-row.the-type record-laws.the-laws) q rs (t .p .appended) none (a .records .place) (a .records .offset) inside (λ is-r.
+          (LL.tells record-row.the-type record-laws.the-laws) q rs (t .p .appended) noRecord (a .records .place) (a .records .offset) inside (λ is-r.
           -- [the record; what it owns; the others; what shuts; the borrow; what is lent; records; the locals, three further on]
           assigns ! (of-opd ! (load ! (from ! (hop ! (look ! (spot 7 15) refl) (stop !))) (look-raw ! 0 refl))) (from ! (stop !))
           (init ! (spot 7 16) refl (LL.lawful record-row.the-type record-laws.the-laws 𝓤 H A W .typed item _ is-r .0)) $
-          elem-back ! record-row.the-row q rs (t .p .appended) none (recordVal item ∷ []) (a .records .place) (a .records .offset) inside $
+          elem-back ! record-row.the-row q rs (t .p .appended) noRecord (recordVal item ∷ []) (a .records .place) (a .records .offset) inside $
           shuts-slice ! tt record-row.the-row q rs (a .records .place) (a .records .offset) $ move ! (2 ∷ []) $
           -- the four slices, each in two temporaries
           assigns ! (addr ! (from ! (fld ! refl (hop ! (look-in ! (spot 4 1) (sub ! 0 refl (whole !))) (stop !))))) (from ! (stop !))
