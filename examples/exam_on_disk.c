@@ -67,7 +67,8 @@ static const char *what_to_do(uint32_t number)
     case COIL_TOO_SHORT:
         return "too few bytes, or a length beyond the buffer: read the file again, whole, or take the copy";
     case COIL_BAD_TRAILER:
-        return "not the file's length (a list leaves a new one), or damaged: take the copy; at creation: t above 16";
+        return "not the file's length (a list leaves a new one), or damaged: take the copy, or see docs/CUT_FILES.md; "
+               "to create or salvage: t above 16";
     case COIL_BAD_BLOCK_LENGTH:
     case COIL_BAD_FILLER:
     case COIL_BAD_DIRECTORY:

@@ -23,8 +23,8 @@
  *
  *   1. Each pointer must be valid for its length. The length of a byte buffer is in bytes, the length
  *      of a word buffer is in words of 8 bytes, the length of a list of records is in records of 24 bytes.
- *   2. Each pointer to words must be aligned for uint64_t, each pointer to a number for size_t, the pointer
- *      to records for coil_record.
+ *   2. Each pointer to words must be aligned for uint64_t, each pointer to a number for the number's type, the
+ *      pointer to records for coil_record.
  *   3. No pointer may be null, not even where the length is 0.
  *   4. The buffers, the list of records and the numbers of one call must not overlap.
  *
@@ -37,14 +37,21 @@
  *   coil_append_all leaves in its bench, beyond the last block, what the blocks before it left there. Both tables
  *   hold the state of the predictors after the last word (of a list, after its last map).
  *
- *   On a refusal, each lent number (length, count, offset, block_length, appended, new_length) is 0. Nothing
- *   else you lent has changed, the tables included. There is one exception: where coil_append_all refuses a
- *   record that is not its first, the maps before that record stay in the file, appended and new_length say
- *   how many they are and how long the file is now, and the tables and the bench are as those maps left them.
+ *   On a refusal, each lent number (length, count, offset, block_length, appended, new_length, kept, left_over,
+ *   renumbered) is 0. Nothing else you lent has changed, the tables included. There is one exception: where
+ *   coil_append_all refuses a record that is not its first, the maps before that record stay in the file, appended
+ *   and new_length say how many they are and how long the file is now, and the tables and the bench are as those
+ *   maps left them.
  *   The refused record itself has changed nothing. From then on the file's length is new_length: with the old one
  *   you would lend a file cut short.
  *
  * Where several rules are broken, the first check of the call's list answers.
+ *
+ * A FILE THAT THESE CALLS MADE
+ *
+ * So is called below a file that coil_create made, and then coil_append, coil_append_all and coil_replace, none of them
+ * refused; or one that coil_salvage made of such a file, whole or cut short, with the t that it was made with. It may
+ * have been copied, to disk and back, say, as long as no byte was changed.
  *
  * TABLES
  *
@@ -67,7 +74,7 @@
  *   A file that these calls made and that was cut short hardly ever opens, but it may: where what is left
  *   happens to end like a file. Then coil_fetch refuses at least one of its slots. Of a file that
  *   another program made, a first part may open with nothing refused. A block that was cut short is always
- *   refused. docs/CUT_FILES.md has the details.
+ *   refused. docs/CUT_FILES.md has the details. coil_salvage gives back the maps whose blocks end before the cut.
  *
  *   Packing the same words again may give other bytes than before request L2 (16 November 2026), of the same length:
  *   the choice between the two predictors goes by leading zero bits since. Nothing needs to be converted. Earlier blocks
@@ -120,6 +127,13 @@ extern "C" {
  * COIL_MOST_FILE_BYTES bytes: beyond that an append answers 12 or 3, and a replace 3. */
 #define COIL_FILE_ROOM(k, n) (COIL_EMPTY_FILE + (size_t)(k) * COIL_APPEND_ROOM(0, n))
 
+/* Bytes of buffer in which the salvage of old_len bytes always has room: the old bytes, an entry for each block that
+ * they can hold, the trailer. No more than COIL_MOST_FILE_BYTES are ever needed: a longer file is refused, whatever you
+ * lend. Of a file that these calls made, a buffer as long as the file was before it was cut is enough, too. */
+#define COIL_SALVAGE_ROOM(old_len) \
+    ((size_t)(old_len) + COIL_EMPTY_FILE \
+     + 12 * ((size_t)(old_len) / 8 < COIL_MOST_ENTRIES ? (size_t)(old_len) / 8 : COIL_MOST_ENTRIES))
+
 /* ---- Numbers answered ------------------------------------------------------------------------- */
 
 /* Done. */
@@ -130,7 +144,8 @@ extern "C" {
 /* More than 65,536 words given, or declared by the block. */
 #define COIL_TOO_MANY_WORDS 2u
 /* A buffer you lent for the result has not enough room; or COIL_APPEND_ROOM, for an append (each record of
- * coil_append_all is one), or COIL_REPLACE_ROOM, for a replace, passes 16,777,216 bytes. */
+ * coil_append_all is one), or COIL_REPLACE_ROOM, for a replace, passes 16,777,216 bytes; or the new file of a
+ * salvage does. */
 #define COIL_NO_ROOM 3u
 /* The block is under 8 bytes, or the file under 32; or the file's length is beyond its buffer. */
 #define COIL_TOO_SHORT 4u
@@ -139,9 +154,9 @@ extern "C" {
 /* The block has an odd count, and the unused half of its last code byte is not 7. */
 #define COIL_BAD_FILLER 6u
 /* The file's trailer breaks a rule other than the exam number (as what stands in its place mostly does where length is
- * not the file's own), or the file is over 16,777,216 bytes. At creation: t is above 16. */
+ * not the file's own), or the file is over 16,777,216 bytes. At creation, and for a salvage: t is above 16. */
 #define COIL_BAD_TRAILER 7u
-/* The exam number is 0, or is not the one asked for. */
+/* The exam number is 0, or is not the one asked for. At creation, and for a salvage: it is 0. */
 #define COIL_WRONG_EXAM 8u
 /* The file's directory breaks a rule. */
 #define COIL_BAD_DIRECTORY 9u
@@ -366,6 +381,46 @@ uint32_t coil_replace(uint8_t *file, size_t file_len, size_t length, uint64_t ex
                       const uint64_t *words, size_t words_len,
                       uint64_t *fcm, size_t fcm_len, uint64_t *dfcm, size_t dfcm_len,
                       uint8_t *bench, size_t bench_len, size_t *new_length);
+
+/* Salvage a file without its end: make a new file, in another buffer, of the blocks that stand whole at the start of
+ * the old bytes. For a file that a full disk cut before its directory and trailer were written, or whose end is damaged.
+ *
+ *   old, old_len       the old bytes, of any length, none included; read only. They need be no file
+ *   file, file_len     the buffer for the new file; COIL_SALVAGE_ROOM(old_len) bytes are always enough (a file has at
+ *                      most COIL_MOST_FILE_BYTES, whatever you lend)
+ *   exam               the exam number of the new file, any but 0: take it from the scan log
+ *   t                  the t that the old file was made with, 0 to 16: take it from the scan log
+ *   new_length         becomes the new file's length
+ *   kept               becomes the number of blocks kept, 0 to 1,024
+ *   left_over          becomes the number of old bytes behind them: those from old[old_len - *left_over] on
+ *   renumbered         becomes 1 (a uint32_t), as a reminder: the old slot numbers stood in the directory and are lost.
+ *                      The blocks have the slots 0, 1, 2 and so on, in the order in which they stood
+ *
+ * Checks in order: 8 exam number 0; 7 t above 16; 3 the new file's length above file_len or above 16,777,216. That is
+ * its true length: the blocks kept, 12 bytes for each, and 32. There is no other refusal.
+ * From the first byte on, a block is taken while one stands whole: the length that it states is within what is left,
+ * and coil_check takes just those bytes (so fewer than 8 bytes are none). It ends at the first that does not stand, and
+ * what is behind that one is left over, whole or not. It also ends after 1,024 blocks. Nothing kept is a success, and
+ * gives an empty file, as coil_create does.
+ * On success the new file opens for exam, and has the old blocks, byte for byte, as they stood. The buffer beyond
+ * *new_length is as it was. Of a file that these calls made, cut anywhere, it has just the maps whose blocks end
+ * before the cut, and coil_fetch gives back their words, with the t that the file was made with. Of a file that opens
+ * and whose blocks all pass coil_check it has all blocks. In both cases no byte of the directory is taken for a block. A
+ * damaged directory may be: one bit is enough, and then kept is more than the maps that you stored.
+ *
+ * What you lend is believed:
+ *
+ *   No block tells whose it is, nor with which t it was packed. Under another exam number the maps answer to that exam.
+ *   With another t, coil_fetch may answer 0 and give other words.
+ *
+ *   Bytes that were never written, 0s or an older file's, say, are taken for the rest of a block where they fit. So lend
+ *   only what was written. Where a program or a disk sets a file's length first and fills it later, the last map kept
+ *   may have wrong words.
+ *
+ *   A hash that was kept with the whole file says nothing of what is salvaged. */
+uint32_t coil_salvage(const uint8_t *old, size_t old_len, uint8_t *file, size_t file_len,
+                      uint64_t exam, uint32_t t,
+                      size_t *new_length, size_t *kept, size_t *left_over, uint32_t *renumbered);
 
 #ifdef __cplusplus
 }

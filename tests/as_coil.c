@@ -13,6 +13,7 @@
 #define ref_append coil_append
 #define ref_append_all coil_append_all
 #define ref_replace coil_replace
+#define ref_salvage coil_salvage
 /* of the reference alone */
 #define ref_pack_before coil_pack_before
 #define ref_pack_as coil_pack_as

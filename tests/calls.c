@@ -16,7 +16,8 @@
 #define TABLE_BYTES ((size_t)8 << 17)
 #define RECORD_BYTES (sizeof(coil_record) * 1100)
 
-static lent the_file, the_block, the_words, the_records, the_fcm, the_dfcm, the_first, the_second;
+static lent the_file, the_old, the_block, the_words, the_records, the_fcm, the_dfcm;
+static lent the_first, the_second, the_third, the_fourth;
 
 static uint64_t seed_in_use;
 static bool stops_at_first;
@@ -30,6 +31,7 @@ void prepare_calls(uint64_t seed, bool stop_at_first)
     stops_at_first = stop_at_first;
     seed_random(seed);
     lent_prepare(&the_file, "file", FILE_BYTES);
+    lent_prepare(&the_old, "old bytes", FILE_BYTES);
     lent_prepare(&the_block, "block", BLOCK_BYTES);
     lent_prepare(&the_words, "words", WORD_BYTES);
     lent_prepare(&the_records, "records", RECORD_BYTES);
@@ -37,6 +39,8 @@ void prepare_calls(uint64_t seed, bool stop_at_first)
     lent_prepare(&the_dfcm, "dfcm", TABLE_BYTES);
     lent_prepare(&the_first, "first number", 8);
     lent_prepare(&the_second, "second number", 8);
+    lent_prepare(&the_third, "third number", 8);
+    lent_prepare(&the_fourth, "fourth number", 4);
 }
 
 void this_case_is(const char *format, ...)
@@ -127,10 +131,11 @@ static demands where_refused(uint32_t answer)
     return both;
 }
 
+/* A number has 8 bytes, or 4, the low ones first. */
 static size_t number_of(const lent *l)
 {
-    size_t number;
-    memcpy(&number, lent_reference(l), sizeof number);
+    size_t number = 0;
+    memcpy(&number, lent_reference(l), l->size);
     return number;
 }
 
@@ -179,7 +184,7 @@ static outcome result_of(uint32_t answer)
     const uint8_t *block = lent_reference(&the_block);
     const uint64_t *fcm = (const uint64_t *)(const void *)lent_reference(&the_fcm);
     const uint64_t *dfcm = (const uint64_t *)(const void *)lent_reference(&the_dfcm);
-    outcome result = { answer, 0, 0, block, NULL, block, fcm, dfcm };
+    outcome result = { answer, 0, 0, 0, 0, block, NULL, block, fcm, dfcm };
     return result;
 }
 
@@ -494,5 +499,54 @@ outcome compare_append_all(lent_file file, const coil_record *records, size_t re
     result.first = number_of(&the_first);
     result.second = number_of(&the_second);
     result.bytes = lent_reference(&the_file);
+    return result;
+}
+
+/* ---- A salvage ---- */
+
+/* Beside both sides being equal: what the numbers say of each other, and what stays as it was. */
+static void numbers_agree(size_t old_len, outcome result)
+{
+    must_hold(result.renumbered == (result.answer == 0), "the slots are renumbered, just where a salvage is done");
+    if (result.answer != 0) {
+        return;
+    }
+    size_t blocks = old_len - result.left_over;
+    bool agree = result.left_over <= old_len && result.first == blocks + 12 * result.second + 32;
+    must_hold(result.second <= COIL_MOST_ENTRIES, "at most 1,024 blocks are kept");
+    must_hold(agree, "the new file has the kept blocks, an entry for each and a trailer");
+    if (!agree || result.first > the_file.size) {
+        return;
+    }
+    must_hold(memcmp(lent_reference(&the_file), lent_before(&the_old), blocks) == 0, "the blocks are as they stood");
+    must_hold(memcmp(lent_reference(&the_file) + result.first, lent_before(&the_file) + result.first,
+                     the_file.size - result.first) == 0, "beyond the new file the buffer is as it was");
+}
+
+outcome compare_salvage(const uint8_t *old, size_t old_len, size_t file_len, uint64_t exam, uint32_t t)
+{
+    lent_set(&the_old, old, old_len, old_len);
+    lent_set(&the_file, NULL, 0, file_len);
+    lend_numbers();
+    lent_set(&the_third, NULL, 0, 8);
+    lent_set(&the_fourth, NULL, 0, 4);
+    uint32_t library = coil_salvage(LIB(the_old), LIB(the_file), exam, t, LIB_NUMBER(the_first),
+                                    LIB_NUMBER(the_second), LIB_NUMBER(the_third),
+                                    (uint32_t *)(void *)lent_library(&the_fourth));
+    uint32_t reference = ref_salvage(REF(the_old), REF(the_file), exam, t, REF_NUMBER(the_first),
+                                     REF_NUMBER(the_second), REF_NUMBER(the_third),
+                                     (uint32_t *)(void *)lent_reference(&the_fourth));
+    const loan loans[] = {
+        { &the_old, ONLY_READ }, { &the_file, WRITTEN }, { &the_first, A_NUMBER }, { &the_second, A_NUMBER },
+        { &the_third, A_NUMBER }, { &the_fourth, A_NUMBER }
+    };
+    JUDGE("salvage", loans);
+    outcome result = result_of(reference);
+    result.first = number_of(&the_first);
+    result.second = number_of(&the_second);
+    result.left_over = number_of(&the_third);
+    result.renumbered = (uint32_t)number_of(&the_fourth);
+    result.bytes = lent_reference(&the_file);
+    numbers_agree(old_len, result);
     return result;
 }

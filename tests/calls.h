@@ -13,11 +13,14 @@
 typedef struct {
     uint32_t answer;            /* all as the reference gave them */
     size_t first;               /* length, count, offset or new length */
-    size_t second;              /* find: the block's length; append_all: how many went in */
-    const uint8_t *bytes;       /* pack: the block; append, append_all, replace: the file. Until the next call. */
-    const uint64_t *words;      /* unpack, fetch: the words. Until the next call. */
-    const uint8_t *bench;       /* append, append_all, replace: the bench. Until the next call. */
-    const uint64_t *fcm;        /* the tables, where the call was lent some. Until the next call. */
+    size_t second;              /* find: the block's length; append_all, salvage: how many went in or were kept */
+    size_t left_over;           /* salvage: how many old bytes are in no block that was kept */
+    uint32_t renumbered;        /* salvage: 1 where it was done */
+    const uint8_t *bytes;       /* pack: the block; append, append_all, replace, salvage: the file. Until the next
+                                 * call, as all that follows. */
+    const uint64_t *words;      /* unpack, fetch: the words */
+    const uint8_t *bench;       /* append, append_all, replace: the bench */
+    const uint64_t *fcm;        /* the tables, where the call was lent some */
     const uint64_t *dfcm;
 } outcome;
 
@@ -56,6 +59,8 @@ outcome compare_append_all(lent_file file, const coil_record *records, size_t re
                            const uint64_t *words, size_t words_len, table_sizes tables, size_t bench_len);
 outcome compare_replace(lent_file file, uint32_t slot, const uint64_t *words, size_t count,
                         table_sizes tables, size_t bench_len);
+/* The new file comes into a buffer of file_len random bytes. */
+outcome compare_salvage(const uint8_t *old, size_t old_len, size_t file_len, uint64_t exam, uint32_t t);
 
 /* Counts a failure where it does not hold: for what the rules say beside both sides being equal. */
 void must_hold(bool holds, const char *what);

@@ -13,8 +13,8 @@ build=$tests/../target/tests/can_fail
 compiler=${CC:-cc}
 runner=()
 flags=(-std=c99 -I "$tests/../include" -I "$tests")
-parts=(compare calls lent words inputs group_blocks group_before group_files group_replace group_many group_order
-    group_damage group_far group_shortest)
+parts=(compare calls lent words inputs group_blocks group_before group_files group_replace group_many group_salvage
+    group_order group_damage group_far group_shortest)
 at_once=2
 
 if ! command -v "$compiler" >/dev/null; then
@@ -60,6 +60,8 @@ group_of() {
         open:*) echo damage ;;
         replace:*) echo replace ;;
         append_all:* | both:\ append_all:*) echo many ;;
+        *salvage:\ file\ limit* | salvage:*\ 32\ bits) echo far ;;
+        salvage:* | both:\ salvage:*) echo salvage ;;
         both:*) echo shortest ;;
         *) echo blocks ;;
     esac

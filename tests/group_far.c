@@ -329,6 +329,74 @@ static void move_much(void)
     forget_exam_file(&f);
 }
 
+/* ---- A salvage at the limit ---- */
+
+#define FULL WORST(MOST_WORDS)
+#define FULL_BLOCKS 30
+/* Two shorter blocks end the row: with an entry for each of the 32, and the trailer, the new file is at the limit. */
+#define SHORTER (LIMIT - 32 - 12 * (FULL_BLOCKS + 2) - FULL_BLOCKS * FULL)
+
+/* The most words, each with 8 residual bytes. */
+static size_t put_full_block(uint8_t *at)
+{
+    memset(at, 0, 8 + MOST_WORDS / 2);
+    put_field(at, 4, MOST_WORDS);
+    put_field(at + 4, 4, FULL);
+    memcpy(at + 8 + MOST_WORDS / 2, filling() + 8 + random_below(MOST_WORDS), (size_t)8 * MOST_WORDS);
+    return FULL;
+}
+
+/* Words that are predicted, two for each byte: a block of exactly that many bytes, up to 32,776. */
+static size_t put_short_block(uint8_t *at, size_t size)
+{
+    memset(at, 0x77, size);
+    put_field(at, 4, 2 * (size - 8));
+    put_field(at + 4, 4, size);
+    return size;
+}
+
+/* A row of blocks whose new file is so many bytes longer than the limit, and 7 bytes behind it. Answers its length. */
+static size_t put_row(uint8_t *row, size_t beyond)
+{
+    size_t at = 0;
+    for (size_t i = 0; i < FULL_BLOCKS; i++) {
+        at += put_full_block(row + at);
+    }
+    at += put_short_block(row + at, SHORTER / 2);
+    at += put_short_block(row + at, SHORTER - SHORTER / 2 + beyond);
+    memset(row + at, 0, 7);
+    return at;
+}
+
+/* The new file may reach the limit by its true length, and not pass it, however large the buffer is. What is left over
+ * does not count. */
+static void salvage_up_to_the_limit(void)
+{
+    uint8_t *row = malloc(LIMIT);
+    must_hold(row != NULL, "memory for a row of blocks");
+    size_t size = put_row(row, 0);
+    this_case_is("a new file at the limit");
+    must_answer(compare_salvage(row, size, LIMIT - 1, 6, 3), 3);
+    outcome result = compare_salvage(row, size + 7, LIMIT + 1000, 6, 3);
+    must_answer(result, 0);
+    must_hold(result.first == LIMIT && result.second == FULL_BLOCKS + 2, "all blocks are kept");
+    must_hold(result.left_over == 7, "fewer than 8 bytes are left over");
+    exam_file f = new_exam_file(LIMIT, 6, 3);
+    memcpy(f.bytes, result.bytes, LIMIT);
+    f.length = LIMIT;
+    must_answer(compare_open(lend_with_spare(&f, 0)), 0);
+    outcome last = compare_find(lend_with_spare(&f, 0), FULL_BLOCKS + 1);
+    must_hold(last.answer == 0 && last.first + last.second == size, "the last block is found at the row's end");
+    forget_exam_file(&f);
+    this_case_is("one block too many for the limit");
+    size += put_short_block(row + size, 8);
+    must_answer(compare_salvage(row, size, LIMIT + 1000, 6, 3), 3);
+    this_case_is("a new file one byte beyond the limit");
+    size = put_row(row, 1);
+    must_answer(compare_salvage(row, size, LIMIT + 1000, 6, 3), 3);
+    free(row);
+}
+
 /* ---- Ends of the numbers ---- */
 
 static void ends_of_slot_and_exam(void)
@@ -474,6 +542,39 @@ static void far_lists(uint64_t *far_words)
     far_words[far] = 0;
 }
 
+/* A block of 9 bytes and nothing but zeros behind it, once in the library and once in the reference, each with its own
+ * buffer. The new file has 53 bytes. */
+static void far_salvage(const char *what, uint32_t expected, const uint8_t *old, size_t old_len,
+                        uint8_t *const buffers[2], size_t buffer)
+{
+    size_t length[2] = { 1, 1 }, kept[2] = { 2, 2 }, left_over[2] = { 1, 1 };
+    uint32_t renumbered[2] = { 2, 2 };
+    uint32_t library = coil_salvage(old, old_len, buffers[0], buffer, 6, 0, &length[0], &kept[0], &left_over[0],
+                                    &renumbered[0]);
+    uint32_t reference = ref_salvage(old, old_len, buffers[1], buffer, 6, 0, &length[1], &kept[1], &left_over[1],
+                                     &renumbered[1]);
+    judge_far(what, library, reference, expected);
+    for (unsigned side = 0; side < 2; side++) {
+        must_hold(length[side] == (expected ? 0 : 53) && kept[side] == !expected && renumbered[side] == !expected,
+                  "the one block is kept, or all is 0");
+        must_hold(left_over[side] == (expected ? 0 : old_len - 9), "all behind it is left over");
+    }
+    must_hold(expected != 0 || memcmp(buffers[0], buffers[1], 53) == 0, "one file on both sides");
+}
+
+static void far_salvages(uint8_t *memory, uint64_t *far_words, uint64_t *more_words)
+{
+    const size_t far = FAR;
+    uint8_t *const buffers[2] = { (uint8_t *)far_words, (uint8_t *)more_words };
+    memset(memory, 0, 64);
+    memcpy(memory, "\1\0\0\0\11\0\0\0\x77", 9);
+    far_salvage("salvage of many bytes", 0, memory, far, buffers, 53);
+    far_salvage("salvage of many bytes and a few", 0, memory, far + 8, buffers, 53);
+    far_salvage("salvage in a large buffer", 0, memory, 9, buffers, far + 52);
+    far_salvage("salvage of many bytes in a large buffer", 0, memory, 2 * far, buffers, far);
+    far_salvage("salvage of many bytes without room", 3, memory, far + 9, buffers, 52);
+}
+
 #define FAR_BYTES (8 * (FAR + 8))
 
 /* The memory is only promised, not used: all but a few pages are never touched. It serves as three lists of words; and
@@ -493,11 +594,15 @@ static void lengths_beyond_32_bits(void)
     far_files(memory);
     far_replaces(memory, far_words, more_words);
     far_lists(far_words);
+    far_salvages(memory, far_words, more_words);
     munmap(memory, 3 * FAR_BYTES);
 }
 
+/* What takes long comes last, so that a slip in what does not is seen soon. */
 void group_far(unsigned rounds)
 {
+    salvage_up_to_the_limit();
+    lengths_beyond_32_bits();
     ends_of_slot_and_exam();
     most_entries();
     one_word_too_many();
@@ -515,5 +620,4 @@ void group_far(unsigned rounds)
     list_up_to_the_limit(3, 1);
     list_up_to_the_limit(301, 1);
     list_up_to_the_limit(301, 2);
-    lengths_beyond_32_bits();
 }

@@ -8,6 +8,7 @@ void group_files(unsigned rounds);
 void group_damage(unsigned rounds);
 void group_replace(unsigned rounds);
 void group_many(unsigned rounds);
+void group_salvage(unsigned rounds);
 void group_order(unsigned rounds);
 void group_far(unsigned rounds);
 void group_shortest(unsigned rounds);

@@ -28,6 +28,8 @@ static uint32_t (*const append_all)(uint8_t *, size_t, size_t, uint64_t, const c
 static uint32_t (*const replace)(uint8_t *, size_t, size_t, uint64_t, uint32_t, const uint64_t *, size_t,
                                  uint64_t *, size_t, uint64_t *, size_t,
                                  uint8_t *, size_t, size_t *) = coil_replace;
+static uint32_t (*const salvage)(const uint8_t *, size_t, uint8_t *, size_t, uint64_t, uint32_t,
+                                 size_t *, size_t *, size_t *, uint32_t *) = coil_salvage;
 
 static unsigned passed;
 static unsigned failed;
@@ -71,6 +73,13 @@ static void numbers_and_limits(void)
     is("replace room", COIL_REPLACE_ROOM(53, 9, 1), 61);
     is("replace room for a shorter block", COIL_REPLACE_ROOM(100, 60, 1), 100);
     is("replace room of sums", 2 * COIL_REPLACE_ROOM(50 + 3, 10 - 1, 1 + 0), 122);
+    is("salvage room of no byte", COIL_SALVAGE_ROOM(0), 32);
+    is("salvage room without a block", COIL_SALVAGE_ROOM(7), 39);
+    is("salvage room for 6 blocks", COIL_SALVAGE_ROOM(53), 157);
+    is("salvage room of a sum", 2 * COIL_SALVAGE_ROOM(50 + 3), 314);
+    is("salvage room for 1,024 blocks", COIL_SALVAGE_ROOM(8192), 20512);
+    is("salvage room for no more", COIL_SALVAGE_ROOM(8200), 20520);
+    is("salvage room beyond 32 bits", COIL_SALVAGE_ROOM((size_t)1 << 33), ((uint64_t)1 << 33) + 12320);
 }
 
 /* The library reads records by these places. */
@@ -144,12 +153,30 @@ static void a_list(void)
     is("two words", 10 * back[0] + back[1] + count, 15);
 }
 
+/* What a full disk left of the file that a_list left: blocks of 10, 10 and 11 bytes, of which the third is cut. */
+static void a_salvage(void)
+{
+    static uint8_t made[COIL_SALVAGE_ROOM(25)];
+    uint64_t back[2] = { 0, 0 };
+    size_t length = 9, kept = 9, left_over = 9, count = 0;
+    uint32_t renumbered = 9;
+
+    is("salvage", salvage(file, 25, made, sizeof made, 8, 3, &length, &kept, &left_over, &renumbered), COIL_DONE);
+    is("two kept, and five bytes left over", 1000 * length + 100 * kept + 10 * left_over + renumbered, 76251);
+    is("fetch what was salvaged", fetch(made, sizeof made, length, 8, 1, fcm, 8, dfcm, 8, back, 2, &count), COIL_DONE);
+    is("one word", 10 * back[0] + count, 31);
+    is("salvage for no exam", salvage(file, 25, made, sizeof made, 0, 3, &length, &kept, &left_over, &renumbered),
+       COIL_WRONG_EXAM);
+    is("nothing answered", length + kept + left_over + renumbered, 0);
+}
+
 int main(void)
 {
     numbers_and_limits();
     layout_of_a_record();
     every_call_once();
     a_list();
+    a_salvage();
     printf("%u passed, %u failed\n", passed, failed);
     return failed != 0;
 }

@@ -686,3 +686,100 @@ uint32_t ref_replace(uint8_t *file, size_t file_len, size_t length, uint64_t exa
     *new_length = put_block_in_place(file, length, &found, index, bench, new_size);
     return 0;
 }
+
+/* ---- Salvage ---- */
+
+/* The length of the block that stands whole at the start of these bytes. 0 where none does: no block is so short. */
+static size_t whole_block_at(const uint8_t *bytes, size_t left)
+{
+    uint64_t count;
+    if (left < BLOCK_HEADER) {
+        return 0;
+    }
+    uint64_t stated = read_field(bytes + 4, 4);
+    if (stated > left) {
+        return 0;
+    }
+    if (refuse_block(bytes, stated, &count)) {
+        return 0;
+    }
+    return stated;
+}
+
+/* Blocks that stand one behind the other from the first byte on. */
+typedef struct {
+    size_t blocks;
+    size_t bytes;
+} row_of_blocks;
+
+static row_of_blocks whole_blocks(const uint8_t *old, size_t old_len)
+{
+    row_of_blocks row = { 0, 0 };
+    while (row.blocks < MOST_ENTRIES) {
+        size_t next = whole_block_at(old + row.bytes, old_len - row.bytes);
+        if (next == 0) {
+            break;
+        }
+        row.blocks++;
+        row.bytes += next;
+    }
+    return row;
+}
+
+/* The new file's length is known by now: its true one is asked for, not the longest there could be. */
+static uint32_t refuse_salvage(uint64_t new_exam, uint32_t new_t, size_t needed, size_t file_len)
+{
+    if (new_exam == 0) {
+        return 8;
+    }
+    if (new_t > MOST_T) {
+        return 7;
+    }
+    if (needed > file_len) {
+        return 3;
+    }
+    if (needed > MOST_FILE_BYTES) {
+        return 3;
+    }
+    return 0;
+}
+
+/* Writes the blocks as they stood, an entry for each, and the trailer, in the order of the file. */
+static void write_salvaged(uint8_t *file, const uint8_t *old, row_of_blocks row, size_t needed,
+                           uint64_t new_exam, uint32_t new_t)
+{
+    uint8_t *entry = file + row.bytes;
+    uint64_t offset = 0;
+    memcpy(file, old, row.bytes);
+    for (uint64_t slot = 0; slot < row.blocks; slot++) {
+        uint64_t size = read_field(old + offset + 4, 4);
+        write_field(entry, 4, slot);
+        write_field(entry + 4, 4, offset);
+        write_field(entry + 8, 4, size);
+        entry += ENTRY;
+        offset += size;
+    }
+    write_trailer(entry, new_t, new_exam, row.blocks, needed);
+}
+
+uint32_t ref_salvage(const uint8_t *old, size_t old_len, uint8_t *file, size_t file_len,
+                     uint64_t new_exam, uint32_t new_t,
+                     size_t *new_length, size_t *kept, size_t *left_over, uint32_t *renumbered)
+{
+    *new_length = 0;
+    *kept = 0;
+    *left_over = 0;
+    *renumbered = 0;
+    row_of_blocks row = whole_blocks(old, old_len);
+    size_t needed = row.bytes + ENTRY * row.blocks + TRAILER;
+    uint32_t refusal = refuse_salvage(new_exam, new_t, needed, file_len);
+    if (refusal) {
+        return refusal;
+    }
+    write_salvaged(file, old, row, needed, new_exam, new_t);
+    *new_length = needed;
+    *kept = row.blocks;
+    *left_over = old_len - row.bytes;
+    *renumbered = 1;
+    return 0;
+}

@@ -67,4 +67,8 @@ uint32_t ref_replace(uint8_t *file, size_t file_len, size_t length, uint64_t exa
                      uint64_t *fcm, size_t fcm_len, uint64_t *dfcm, size_t dfcm_len,
                      uint8_t *bench, size_t bench_len, size_t *new_length);
 
+uint32_t ref_salvage(const uint8_t *old, size_t old_len, uint8_t *file, size_t file_len,
+                     uint64_t new_exam, uint32_t new_t,
+                     size_t *new_length, size_t *kept, size_t *left_over, uint32_t *renumbered);
+
 #endif

@@ -276,6 +276,54 @@ static void worked_lists(void)
     list_gives(&wraps, 1, 15, 0, "");
 }
 
+/* ---- Salvages worked by hand ---- */
+
+static void salvage_gives(const char *old_hex, size_t kept, size_t left_over, const char *hex)
+{
+    uint8_t old[64], expected[128];
+    size_t old_len = from_hex(old_hex, old), expected_length = from_hex(hex, expected);
+    size_t length = 9, of_blocks = 9, of_bytes = 99;
+    uint32_t renumbered = 9;
+    memset(file, 0xEE, sizeof file);
+    uint32_t answer = ref_salvage(old, old_len, file, sizeof file, 7, 10, &length, &of_blocks, &of_bytes, &renumbered);
+    holds(answer == 0 && of_blocks == kept && of_bytes == left_over && renumbered == 1, "numbers of a salvage");
+    holds(length == expected_length && memcmp(file, expected, length) == 0 && file[length] == 0xEE, hex);
+}
+
+static void salvage_is_refused(uint64_t exam, uint32_t t, size_t room, uint32_t number)
+{
+    const uint8_t zero_block[9] = { 1, 0, 0, 0, 9, 0, 0, 0, 0x77 };
+    size_t length = 9, kept = 9, left_over = 9;
+    uint32_t renumbered = 9;
+    memset(file, 0xEE, sizeof file);
+    uint32_t answer = ref_salvage(zero_block, 9, file, room, exam, t, &length, &kept, &left_over, &renumbered);
+    holds(answer == number && length + kept + left_over + renumbered == 0, "a refused salvage: its number, and 0");
+    holds(file[0] == 0xEE && file[52] == 0xEE, "a refused salvage writes nothing");
+}
+
+/* The file of 53 bytes, whole and cut; a wrong filler between two whole blocks; the blocks of 11 and 9 bytes. */
+static void worked_salvages(void)
+{
+    const char *of_zero = "01 00 00 00 09 00 00 00 77 00 00 00 00 00 00 00 00 09 00 00 00 "
+        "63 6F 69 6C 01 00 0A 00 07 00 00 00 00 00 00 00 2C 00 00 00 01 00 00 00 35 00 00 00 00 00 00 00";
+    const char *empty = "63 6F 69 6C 01 00 0A 00 07 00 00 00 00 00 00 00 "
+        "20 00 00 00 00 00 00 00 20 00 00 00 00 00 00 00";
+    salvage_gives("01 00 00 00 09 00 00 00 77 03 00 00 00 00 00 00 00 09 00 00 00 63 6F 69 6C 01 00 0A 00 "
+                  "07 00 00 00 00 00 00 00 2C 00 00 00 01 00 00 00 35 00 00 00 00 00 00 00", 1, 44, of_zero);
+    salvage_gives("01 00 00 00 09 00 00 00 77", 1, 0, of_zero);
+    salvage_gives("01 00 00 00 09 00 00 00", 0, 8, empty);
+    salvage_gives("", 0, 0, empty);
+    salvage_gives(empty, 0, 32, empty);
+    salvage_gives("01 00 00 00 09 00 00 00 77 01 00 00 00 09 00 00 00 76 01 00 00 00 09 00 00 00 77", 1, 18, of_zero);
+    salvage_gives("03 00 00 00 0B 00 00 00 6F F7 01 01 00 00 00 09 00 00 00 77 01", 2, 1,
+                  "03 00 00 00 0B 00 00 00 6F F7 01 01 00 00 00 09 00 00 00 77 "
+                  "00 00 00 00 00 00 00 00 0B 00 00 00 01 00 00 00 0B 00 00 00 09 00 00 00 "
+                  "63 6F 69 6C 01 00 0A 00 07 00 00 00 00 00 00 00 38 00 00 00 02 00 00 00 4C 00 00 00 00 00 00 00");
+    salvage_is_refused(0, 17, 52, 8);
+    salvage_is_refused(7, 17, 52, 7);
+    salvage_is_refused(7, 16, 52, 3);
+}
+
 /* ---- Round trips and room ---- */
 
 /* The least room that the promise allows: over every way to cut the words into runs of one fixed
@@ -346,6 +394,7 @@ int main(void)
     worked_replaces();
     worked_moves();
     worked_lists();
+    worked_salvages();
     round_trips();
     printf("%u passed, %u failed\n", passed, failed);
     return failed != 0;

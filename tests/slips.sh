@@ -4,7 +4,8 @@
 # begins with "both:", the reference that the library is compared with makes the slip too.
 # shellcheck shell=bash disable=SC2016
 
-# The slip made by the library alone, and by both sides: the tests hold a list against appends one after another, too.
+# The slip made by the library alone, and by both sides: the tests hold a list against appends one after another, too,
+# and a salvage against the blocks that they put into the old bytes.
 slip_of_one_and_both() {
     slip "$1" "$2" "$3"
     slip "both: $1" "$2" "$3"
@@ -664,6 +665,148 @@ slip "append_all: tables cleared after the last record" '*new_length = reached;
     if (records_len > 0) { memset(fcm, 0, 8 * fcm_len); memset(dfcm, 0, 8 * dfcm_len); }
     return 0;'
 slip "append_all: records changed" '*appended = i + 1;' '*appended = i + 1; ((ref_record *)records)[i].first = 0;'
+
+# ---- Salvaging: which blocks are kept
+slip_of_one_and_both "salvage: the stated length is trusted" 'if (refuse_block(bytes, stated, &count)) {' \
+    'if (stated < BLOCK_HEADER) {'
+slip_of_one_and_both "salvage: a wrong filler is taken" 'if (refuse_block(bytes, stated, &count)) {' \
+    'if (refuse_block(bytes, stated, &count) % 6) {'
+slip "salvage: any count is taken" 'if (refuse_block(bytes, stated, &count)) {' \
+    'if (refuse_block(bytes, stated, &count) > 2) {'
+slip "salvage: all that is left is checked" 'if (refuse_block(bytes, stated, &count)) {' \
+    'if (refuse_block(bytes, left, &count)) {'
+slip "salvage: the stated length may be beyond the end" 'if (stated > left) {' 'if (0) {'
+slip "salvage: the stated length may be one byte beyond the end" 'if (stated > left) {' 'if (stated > left + 1) {'
+slip "salvage: a block up to the end is not taken" 'if (stated > left) {' 'if (stated >= left) {'
+slip "salvage: the length is read from two bytes" 'uint64_t stated = read_field(bytes + 4, 4);' \
+    'uint64_t stated = read_field(bytes + 4, 2);'
+slip "salvage: 7 bytes are looked at" 'if (left < BLOCK_HEADER) {' 'if (left < BLOCK_HEADER - 1) {'
+slip "salvage: the last 8 bytes are not looked at" 'if (left < BLOCK_HEADER) {' 'if (left <= BLOCK_HEADER) {'
+slip "salvage: the last 32 bytes are taken for a trailer" 'row_of_blocks row = whole_blocks(old, old_len);' \
+    'row_of_blocks row = whole_blocks(old, old_len < TRAILER ? 0 : old_len - TRAILER);'
+slip_of_one_and_both "salvage: takes a 1,025th block" 'while (row.blocks < MOST_ENTRIES) {' \
+    'while (row.blocks < MOST_ENTRIES + 1) {'
+slip "salvage: takes any number of blocks" 'while (row.blocks < MOST_ENTRIES) {' 'while (1) {'
+slip_of_one_and_both "salvage: takes 1,023 blocks at most" 'while (row.blocks < MOST_ENTRIES) {' \
+    'while (row.blocks + 1 < MOST_ENTRIES) {'
+slip_of_one_and_both "salvage: a refused block is passed by" 'row_of_blocks row = whole_blocks(old, old_len);' \
+    'uint8_t *taken = room_for(old_len);
+    size_t at = 0, end = 0;
+    while (old_len - at >= BLOCK_HEADER) {
+        uint64_t stated = read_field(old + at + 4, 4);
+        if (stated < BLOCK_HEADER || stated > old_len - at) { break; }
+        if (whole_block_at(old + at, old_len - at)) { memcpy(taken + end, old + at, stated); end += stated; }
+        at += stated;
+    }
+    old = taken;
+    row_of_blocks row = whole_blocks(taken, end);'
+slip "salvage: the next block is looked for byte by byte" 'row_of_blocks row = whole_blocks(old, old_len);' \
+    'uint8_t *taken = room_for(old_len < MOST_FILE_BYTES ? old_len : 0);
+    size_t end = 0;
+    for (size_t at = 0, size; at < old_len && old_len < MOST_FILE_BYTES; at += size > 0 ? size : 1) {
+        size = whole_block_at(old + at, old_len - at);
+        memcpy(taken + end, old + at, size);
+        end += size;
+    }
+    old = taken;
+    row_of_blocks row = whole_blocks(taken, end);'
+slip "salvage: nothing kept is refused" 'needed, file_len);
+    if (refusal) {' 'needed, file_len);
+    if (!refusal && row.blocks == 0) { return 4; }
+    if (refusal) {'
+slip "salvage: old bytes too short for a file are refused" 'needed, file_len);
+    if (refusal) {' 'needed, file_len);
+    if (!refusal && old_len < TRAILER) { return 4; }
+    if (refusal) {'
+slip "salvage: an intact file is taken as it is" 'write_salvaged(file, old, row, needed, new_exam, new_t);' \
+    'write_salvaged(file, old, row, needed, new_exam, new_t);
+    if (ref_open(old, old_len, old_len, new_exam) == 0) { memcpy(file, old, needed); }'
+slip "salvage: old length cut to 32 bits" 'row_of_blocks row = whole_blocks(old, old_len);' \
+    'row_of_blocks row = whole_blocks(old, (uint32_t)old_len);'
+
+# ---- Salvaging: the new file
+slip "salvage: blocks are not copied" 'memcpy(file, old, row.bytes);' ''
+slip_of_one_and_both "salvage: slots from 1" 'write_field(entry, 4, slot);' 'write_field(entry, 4, slot + 1);'
+slip "salvage: every offset is 0" 'write_field(entry + 4, 4, offset);' 'write_field(entry + 4, 4, 0);'
+slip_of_one_and_both "salvage: an offset is where the block ends" 'write_field(entry + 4, 4, offset);' \
+    'write_field(entry + 4, 4, offset + size);'
+slip "salvage: entry length without the header" 'write_field(entry + 8, 4, size);' \
+    'write_field(entry + 8, 4, size - BLOCK_HEADER);'
+slip "salvage: entry length with two bytes" 'write_field(entry + 8, 4, size);' \
+    'write_field(entry + 8, 4, (uint16_t)size);'
+slip "salvage: entries not counted" 'write_trailer(entry, new_t, new_exam, row.blocks, needed);' \
+    'write_trailer(entry, new_t, new_exam, 0, needed);'
+slip_of_one_and_both "salvage: edition 2" 'write_trailer(entry, new_t, new_exam, row.blocks, needed);' \
+    'write_trailer(entry, new_t, new_exam, row.blocks, needed); write_field(entry + 4, 2, 2);'
+slip_of_one_and_both "salvage: keeps the old exam number" 'write_salvaged(file, old, row, needed, new_exam, new_t);' \
+    'const uint8_t *end = old_len < TRAILER ? NULL : old + old_len - TRAILER;
+    if (end != NULL && memcmp(end, "coil", 4) == 0) { new_exam = read_field(end + 8, 8); }
+    write_salvaged(file, old, row, needed, new_exam, new_t);'
+slip "salvage: keeps the old t" 'write_salvaged(file, old, row, needed, new_exam, new_t);' \
+    'const uint8_t *end = old_len < TRAILER ? NULL : old + old_len - TRAILER;
+    if (end != NULL && memcmp(end, "coil", 4) == 0) { new_t = (uint32_t)read_field(end + 6, 2); }
+    write_salvaged(file, old, row, needed, new_exam, new_t);'
+slip "salvage: states a length without the trailer" 'write_trailer(entry, new_t, new_exam, row.blocks, needed);' \
+    'write_trailer(entry, new_t, new_exam, row.blocks, needed - TRAILER);'
+slip_of_one_and_both "salvage: rest of the buffer cleared" '*new_length = needed;' \
+    'memset(file + needed, 0, file_len - needed);
+    *new_length = needed;'
+slip "salvage: old bytes cleared" '*new_length = needed;' 'memset((uint8_t *)old, 0, row.bytes);
+    *new_length = needed;'
+
+# ---- Salvaging: numbers and refusals
+slip "salvage: length without the trailer" '*new_length = needed;' '*new_length = needed - TRAILER;'
+slip_of_one_and_both "salvage: kept counts the refused block" '*kept = row.blocks;' \
+    '*kept = row.blocks + (old_len > row.bytes);'
+slip_of_one_and_both "salvage: left over counts the directory" '*left_over = old_len - row.bytes;' \
+    '*left_over = old_len - row.bytes + ENTRY * row.blocks;'
+slip "salvage: left over without the old directory and trailer" '*left_over = old_len - row.bytes;' \
+    '*left_over = old_len < needed ? 0 : old_len - needed;'
+slip "salvage: left over is what was kept" '*left_over = old_len - row.bytes;' '*left_over = row.bytes;'
+slip "salvage: left over cut to 32 bits" '*left_over = old_len - row.bytes;' \
+    '*left_over = (uint32_t)(old_len - row.bytes);'
+slip_of_one_and_both "salvage: renumbered 0" '*renumbered = 1;' ''
+slip_of_one_and_both "salvage: renumbered 0 where nothing is kept" '*renumbered = 1;' '*renumbered = row.blocks > 0;'
+slip "salvage: renumbered 1 on a refusal" '*renumbered = 0;' '*renumbered = 1;'
+slip "salvage: a refusal leaves the length" '*new_length = 0;
+    *kept = 0;' '*kept = 0;'
+slip "salvage: a refusal leaves kept" '*kept = 0;' ''
+slip "salvage: a refusal leaves left over" '*left_over = 0;' ''
+slip "salvage: a refusal answers the room" 'needed, file_len);
+    if (refusal) {' 'needed, file_len);
+    if (refusal == 3) { *new_length = needed; }
+    if (refusal) {'
+slip "salvage: a refusal answers how many would be kept" 'needed, file_len);
+    if (refusal) {' 'needed, file_len);
+    *kept = row.blocks;
+    if (refusal) {'
+slip "salvage: a refusal leaves blocks in the buffer" 'uint32_t refusal = refuse_salvage(' \
+    'if (row.bytes <= file_len) { memcpy(file, old, row.bytes); }
+    uint32_t refusal = refuse_salvage('
+slip "salvage: exam 0 accepted" 'if (new_exam == 0) {' 'if (0) {'
+slip "salvage: exam looked at by four bytes" 'if (new_exam == 0) {' 'if ((uint32_t)new_exam == 0) {'
+slip_of_one_and_both "salvage: t before exam" 'if (new_exam == 0) {' \
+    'if (new_t > MOST_T) { return 7; } if (new_exam == 0) {'
+slip "salvage: room before exam" 'if (new_exam == 0) {' 'if (needed > file_len) { return 3; } if (new_exam == 0) {'
+slip "salvage: room before t" 'if (new_t > MOST_T) {' 'if (needed > file_len) { return 3; } if (new_t > MOST_T) {'
+slip "salvage: t = 17 accepted" 'if (new_t > MOST_T) {' 'if (new_t > MOST_T + 1) {'
+slip "salvage: t = 16 refused" 'if (new_t > MOST_T) {' 'if (new_t >= MOST_T) {'
+slip "salvage: t cut to 16 bits" 'if (new_t > MOST_T) {' 'if ((uint16_t)new_t > MOST_T) {'
+slip "salvage: exactly enough room refused" 'if (needed > file_len) {' 'if (needed >= file_len) {'
+slip "salvage: one byte of room too few accepted" 'if (needed > file_len) {' 'if (needed > file_len + 1) {'
+slip "salvage: room cut to 32 bits" 'if (needed > file_len) {' 'if (needed > (uint32_t)file_len) {'
+slip_of_one_and_both "salvage: room asked for 1,024 entries" 'refuse_salvage(new_exam, new_t, needed, file_len)' \
+    'refuse_salvage(new_exam, new_t, row.bytes + ENTRY * MOST_ENTRIES + TRAILER, file_len)'
+slip_of_one_and_both "salvage: room asked for all old bytes" 'refuse_salvage(new_exam, new_t, needed, file_len)' \
+    'refuse_salvage(new_exam, new_t, old_len + ENTRY * row.blocks + TRAILER, file_len)'
+slip "salvage: room asked for the blocks alone" 'refuse_salvage(new_exam, new_t, needed, file_len)' \
+    'refuse_salvage(new_exam, new_t, row.bytes + TRAILER, file_len)'
+slip_of_one_and_both "salvage: file limit forgotten" 'if (needed > MOST_FILE_BYTES) {' 'if (0) {'
+slip "salvage: file limit passed by one byte" 'if (needed > MOST_FILE_BYTES) {' 'if (needed > MOST_FILE_BYTES + 1) {'
+slip "salvage: file limit exactly refused" 'if (needed > MOST_FILE_BYTES) {' 'if (needed >= MOST_FILE_BYTES) {'
+slip "salvage: file limit by the old bytes" 'refuse_salvage(new_exam, new_t, needed, file_len);' \
+    'refuse_salvage(new_exam, new_t, needed, file_len);
+    if (!refusal && old_len + ENTRY * row.blocks + TRAILER > MOST_FILE_BYTES) { return 3; }'
 
 # ---- Slips of both sides: a packer whose blocks come back, and are longer than they need be
 slip "both: the residual that the rule leaves is taken" 'int dfcm_is_chosen = dfcm_chosen(' \

@@ -14,9 +14,10 @@ enum { MOST = 1024, STACK = 65536, PAINT = 0xA5, COUNT = 3001, T = 10 };
 static uint8_t stack[STACK];
 static uint64_t words[COUNT], back[COUNT], fcm[COIL_TABLE_WORDS(T)], dfcm[COIL_TABLE_WORDS(T)];
 static uint8_t block[COIL_WORST(COUNT)], bench[COIL_WORST(COUNT)], file[COIL_FILE_ROOM(3, COUNT)];
+static uint8_t salvaged[sizeof file];
 static const coil_record records[2] = { { 2, 1, COUNT - 1 }, { 3, 0, COUNT / 3 } };
-static size_t length, block_length, file_length, offset, appended;
-static uint32_t answer;
+static size_t length, block_length, file_length, offset, appended, kept, left_over;
+static uint32_t answer, renumbered;
 
 static void nothing(void)
 {
@@ -68,6 +69,13 @@ static void fetch(void)
                         dfcm, COIL_TABLE_WORDS(T), back, COUNT, &length);
 }
 
+/* All the blocks of the file are looked at and copied. */
+static void salvage(void)
+{
+    answer = coil_salvage(file, file_length, salvaged, sizeof salvaged, EXAM, T, &length, &kept, &left_over,
+                          &renumbered);
+}
+
 static void pack(void)
 {
     answer = coil_pack(words, COUNT, fcm, COIL_TABLE_WORDS(T), dfcm, COIL_TABLE_WORDS(T), block, sizeof block,
@@ -114,8 +122,8 @@ int main(void)
     } calls[] = { { "coil_create", create }, { "coil_append", append }, { "coil_append_all", append_all },
                   { "coil_replace by fewer words", replace_by_fewer },
                   { "coil_replace by more words", replace_by_more }, { "coil_open", open_it },
-                  { "coil_find", find }, { "coil_fetch", fetch }, { "coil_pack", pack },
-                  { "coil_check", check }, { "coil_unpack", unpack } };
+                  { "coil_find", find }, { "coil_fetch", fetch }, { "coil_salvage", salvage },
+                  { "coil_pack", pack }, { "coil_check", check }, { "coil_unpack", unpack } };
     unsigned passed = 0, failed = 0;
     size_t around = depth(nothing);
     /* Zeros, a ramp and residuals of every length, so that every way through the packer is taken. */

@@ -21,6 +21,7 @@ typedef struct {
     uint64_t fcm[1024], dfcm[1024], back[COUNT];
     uint8_t expected[COIL_EMPTY_FILE + SLOTS * COIL_APPEND_ROOM(0, COUNT)];
     uint8_t file[COIL_EMPTY_FILE + SLOTS * COIL_APPEND_ROOM(0, COUNT)];
+    uint8_t salvaged[COIL_EMPTY_FILE + SLOTS * COIL_APPEND_ROOM(0, COUNT)];
     uint8_t bench[COIL_WORST(COUNT)];
     size_t expected_length;
     unsigned passed, failed;
@@ -61,6 +62,18 @@ static uint32_t append_in_one_call(worker *w, size_t *length)
                            w->fcm, entries, w->dfcm, entries, w->bench, sizeof w->bench, &appended, length);
 }
 
+/* Of all but the file's last byte. Its slots are 0, 1 and 2, so that the same file must come out. */
+static int is_salvaged(worker *w, size_t length)
+{
+    size_t new_length = 0, kept = 0, left_over = 0;
+    uint32_t renumbered = 0;
+    memset(w->salvaged, 0, sizeof w->salvaged);
+    uint32_t answer = coil_salvage(w->file, length - 1, w->salvaged, sizeof w->salvaged, 1 + w->t, w->t, &new_length,
+                                   &kept, &left_over, &renumbered);
+    return answer == 0 && kept == SLOTS && left_over == 12 * SLOTS + 31 && renumbered == 1
+        && new_length == w->expected_length && memcmp(w->salvaged, w->expected, new_length) == 0;
+}
+
 static void store_and_fetch(worker *w, uint32_t round)
 {
     size_t entries = COIL_TABLE_WORDS(w->t), length = 0, count = 0;
@@ -71,7 +84,8 @@ static void store_and_fetch(worker *w, uint32_t round)
     answer += coil_fetch(w->file, sizeof w->file, length, exam, fetched_slot, w->fcm, entries,
                          w->dfcm, entries, w->back, COUNT, &count);
     if (answer == 0 && length == w->expected_length && memcmp(w->file, w->expected, length) == 0
-        && count == COUNT && memcmp(w->back, w->words[fetched_slot], sizeof w->back) == 0) {
+        && count == COUNT && memcmp(w->back, w->words[fetched_slot], sizeof w->back) == 0
+        && is_salvaged(w, length)) {
         w->passed++;
     } else {
         w->failed++;

@@ -1,6 +1,7 @@
 /* What the file calls touch. The blocks of a large file stand in pages that may be neither read nor written:
  * opening, finding and appending, one map or a list, must get along without them, and replacing without those before
- * the block that it replaces. A call that touches one ends the program.
+ * the block that it replaces. The old bytes of a salvage stand in pages that may only be read. A call that touches what
+ * it may not ends the program.
  */
 #define _DEFAULT_SOURCE
 #include "coil.h"
@@ -116,6 +117,24 @@ static void replace(size_t length, uint32_t slot)
     unlock(locked);
 }
 
+/* Blocks of 8 bytes without words, in a page that is not written to, not even with what stands there already. */
+static void salvage(void)
+{
+    static uint8_t made[COIL_SALVAGE_ROOM(4096)];
+    size_t length, kept, left_over;
+    uint32_t renumbered;
+    memset(file, 0, 4096);
+    for (size_t i = 4; i < 4096; i += 8)
+        file[i] = 8;
+    protect(4096, PROT_READ);
+    is("salvage", coil_salvage(file, 4096, made, sizeof made, EXAM, 0, &length, &kept, &left_over, &renumbered),
+       COIL_DONE);
+    is("blocks that were kept", kept, 512);
+    is("the new file", length, sizeof made);
+    is("open what was salvaged", coil_open(made, sizeof made, length, EXAM), COIL_DONE);
+    protect(4096, PROT_READ | PROT_WRITE);
+}
+
 int main(void)
 {
     void *memory = mmap(NULL, ROOM, PROT_READ | PROT_WRITE, MAP_PRIVATE | MAP_ANONYMOUS, -1, 0);
@@ -129,6 +148,7 @@ int main(void)
     append_all(COIL_MOST_FILE_BYTES - 65536);
     replace(COIL_MOST_FILE_BYTES, 5120);
     replace(COIL_MOST_FILE_BYTES, 10230);
+    salvage();
     printf("%u passed, %u failed\n", passed, failed);
     return failed != 0;
 }

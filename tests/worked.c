@@ -43,12 +43,16 @@ static void print_words(const uint64_t *words, size_t count)
     }
 }
 
+/* Too many bytes for a line are only counted. */
 static void print_given_bytes(const uint8_t *bytes, size_t count)
 {
     if (count == 0) {
         printf(" no bytes");
+    } else if (count > 64) {
+        printf(" %zu bytes", count);
+    } else {
+        print_bytes(bytes, count);
     }
-    print_bytes(bytes, count);
 }
 
 /* Too many words for a line are only counted. */
@@ -227,6 +231,25 @@ static void append_two(list_lent lent, uint32_t slot, size_t first, size_t count
 {
     const coil_record records[2] = { { slot, first, count }, { next_slot, next_first, next_count } };
     append_all(file, file_len, lent, records, 2);
+}
+
+static void salvage_bytes(const uint8_t *old, size_t old_len, uint8_t *to, size_t to_len, uint64_t exam, uint32_t t)
+{
+    size_t new_length = NOT_ANSWERED, kept = NOT_ANSWERED, left_over = NOT_ANSWERED;
+    uint32_t renumbered = NOT_ANSWERED;
+    printf("salvage");
+    print_given_bytes(old, old_len);
+    printf(", exam %llu, t %u, in %zu bytes", (unsigned long long)exam, (unsigned)t, to_len);
+    uint32_t answer = coil_salvage(old, old_len, to, to_len, exam, t, &new_length, &kept, &left_over, &renumbered);
+    printf(": answers %u, length %zu, kept %zu, left over %zu, renumbered %u\n", (unsigned)answer, new_length, kept,
+           left_over, (unsigned)renumbered);
+}
+
+static void salvage(const char *hex, uint64_t exam, uint32_t t)
+{
+    uint8_t old[64] = { 0 };
+    size_t old_len = from_hex(hex, old);
+    salvage_bytes(old, old_len, file, file_len, exam, t);
 }
 
 /* The first bytes of the buffer: a file, and what lies beyond it. */
@@ -765,6 +788,102 @@ static void full_file(void)
     append_all(large, sizeof large, lent, records, 0);
 }
 
+/* The file of 53 bytes, whole and cut behind its block: the same new file, in which slot 3 is slot 0. Cut by one byte
+ * more it has no block. So have no bytes at all, and the empty file. The last byte printed lies beyond the new file. */
+static void salvages_worked_by_hand(void)
+{
+    printf("The file of 53 bytes salvaged, whole and cut\n");
+    lend_buffer(128);
+    salvage("01 00 00 00 09 00 00 00 77 03 00 00 00 00 00 00 00 09 00 00 00 63 6f 69 6c 01 00 0a 00 07 00 00 00 "
+            "00 00 00 00 2c 00 00 00 01 00 00 00 35 00 00 00 00 00 00 00", 7, 10);
+    print_buffer(54);
+    open_file(53, 7);
+    fetch(53, 7, 0, 1024, 1024, 8);
+    fetch(53, 7, 3, 1024, 1024, 8);
+    lend_buffer(128);
+    salvage("01 00 00 00 09 00 00 00 77", 7, 10);
+    print_buffer(54);
+    lend_buffer(128);
+    salvage("01 00 00 00 09 00 00 00", 7, 10);
+    print_buffer(33);
+    open_file(32, 7);
+    lend_buffer(128);
+    salvage("", 7, 10);
+    print_buffer(33);
+    lend_buffer(128);
+    salvage("63 6f 69 6c 01 00 0a 00 07 00 00 00 00 00 00 00 20 00 00 00 00 00 00 00 20 00 00 00 00 00 00 00", 7, 10);
+    print_buffer(33);
+}
+
+/* Three blocks, of 11, 8 and 10 bytes, and three bytes of a fourth. */
+static void salvage_of_three_blocks(void)
+{
+    printf("Three blocks salvaged\n");
+    lend_buffer(128);
+    salvage("03 00 00 00 0b 00 00 00 6f f7 01 00 00 00 00 08 00 00 00 01 00 00 00 0a 00 00 00 67 01 01 00 00",
+            UINT64_MAX, 0);
+    print_buffer(98);
+    open_file(97, UINT64_MAX);
+    open_file(97, 7);
+    fetch(97, UINT64_MAX, 0, 1, 1, 8);
+    fetch(97, UINT64_MAX, 1, 1, 1, 8);
+    fetch(97, UINT64_MAX, 2, 1, 1, 8);
+}
+
+/* A filler that is not 7, with a whole block before it and one behind; a block that lacks its last byte; lengths of
+ * 2^32 - 1, of 0 and of 7; a count of 2^32 - 1; codes that add up to more and to less than the length. Then a block
+ * that is whole: no words. */
+static void ends_of_a_salvage(void)
+{
+    printf("The first block that is not whole\n");
+    lend_buffer(128);
+    salvage("01 00 00 00 09 00 00 00 77 01 00 00 00 09 00 00 00 76 01 00 00 00 09 00 00 00 77", 7, 10);
+    salvage("01 00 00 00 0a 00 00 00 67", 7, 10);
+    salvage("00 00 00 00 ff ff ff ff", 7, 10);
+    salvage("00 00 00 00 00 00 00 00", 7, 10);
+    salvage("00 00 00 00 07 00 00 00", 7, 10);
+    salvage("ff ff ff ff 08 00 00 00", 7, 10);
+    salvage("01 00 00 00 09 00 00 00 67 01", 7, 10);
+    salvage("01 00 00 00 0a 00 00 00 77 01", 7, 10);
+    salvage("00 00 00 00 08 00 00 00", 7, 10);
+}
+
+/* Exam number 0, before t of 17, before room that is one byte short of the new file; then at exactly that limit. */
+static void refusals_to_salvage(void)
+{
+    const char *zero_block = "01 00 00 00 09 00 00 00 77";
+    printf("Refusals to salvage\n");
+    lend_buffer(0);
+    salvage(zero_block, 0, 17);
+    salvage(zero_block, 7, 17);
+    salvage(zero_block, 7, 10);
+    file_len = 52;
+    salvage(zero_block, 0, 10);
+    salvage(zero_block, 7, UINT32_MAX);
+    salvage(zero_block, 7, 16);
+    file_len = 31;
+    salvage("", 7, 10);
+    salvage("", 0, 17);
+    print_buffer(53);
+    file_len = 53;
+    salvage(zero_block, 7, 16);
+    file_len = 32;
+    salvage("", 7, 10);
+}
+
+/* One block without words more than a file can have. */
+static void salvage_of_many_blocks(void)
+{
+    static uint8_t large[COIL_SALVAGE_ROOM(8200)], old[8200];
+    for (size_t i = 4; i < sizeof old; i += 8) {
+        old[i] = 8;
+    }
+    printf("A salvage of 1,025 blocks\n");
+    salvage_bytes(old, sizeof old, large, 20511, 7, 10);
+    salvage_bytes(old, sizeof old, large, 20512, 7, 10);
+    salvage_bytes(old, 8192, large, sizeof large, 7, 10);
+}
+
 int main(void)
 {
     /* Where a call ends the program, the line up to that call is still printed. */
@@ -794,5 +913,10 @@ int main(void)
     refusals_to_append_all();
     no_room_for_a_record();
     full_file();
+    salvages_worked_by_hand();
+    salvage_of_three_blocks();
+    ends_of_a_salvage();
+    refusals_to_salvage();
+    salvage_of_many_blocks();
     return 0;
 }

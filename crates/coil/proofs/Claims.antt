@@ -1,8 +1,9 @@
 -- What is promised of the calls from C, each promise with one line of plain words. They are the store's own promises, read through the lent numbers.
 use mathlib.Core.Path.{_≡_, refl, sym, ap, _∙_}
+use mathlib.Core.Bool.{false}
 use mathlib.Core.Logic.{_↔_, _⊎_}
 use mathlib.Core.List.{List, [], _∷_, _++_, map, List·Mem, mem-cast}
-use Prim.Native.Nat.{ℕ, _+_, _^_, _≤_, _<_}
+use Prim.Native.Nat.{ℕ, min, _+_, _-_, _*_, _/_, _^_, _≤_, _<_}
 use native.Mathlib.Omega.{arith}
 use lib.ListN.{length, getD, take, drop}
 use Rattle.words.specs.Words.{Words}
@@ -18,21 +19,24 @@ use Rattle.block_rules.specs.declared.Unpacked.{Unpacked}
 use Rattle.block_rules.proofs.Accept.{checks-number}
 use Rattle.block_rules.proofs.Claims.{packed-before-checks}
 use Rattle.blocks.proofs.Claims.{Tables, round-trip, packed-before-unpacks, pack-is-shortest, pack-numbers, check-numbers, unpack-numbers, pack-one-answer, unpack-one-answer, pack-forgets, unpack-forgets, refused-pack-changes-nothing, refused-unpack-changes-nothing}
-use Rattle.exam_rules.specs.File.{Entry, fileLength, fileBytes}
+use Rattle.exam_rules.specs.File.{Entry, fileLength, fileBytes, blockOf, empty}
+use Rattle.exam_rules.specs.Pieces.{fileOfPieces}
 use Rattle.exam_rules.specs.Reading.{examIn, fileIn, entryOf}
 use Rattle.exam_rules.specs.Numbers.{openInNumber, findNumber, blockIn, nextSlot}
-use Rattle.exam_rules.specs.Calls.{located, Lent, lent, wordsOf, filled}
-use Rattle.exam_rules.specs.Maps.{Map, fileOf, changed}
+use Rattle.exam_rules.specs.Calls.{opened, openedT, openedEntries, located, Lent, lent, wordsOf, filled}
+use Rattle.exam_rules.specs.Salvage.{blockStands, wholeBlocks, numbered, salvagedFile}
+use Rattle.exam_rules.specs.Maps.{Map, fileOf, changed, renumberedFrom}
 use Rattle.exam_rules.specs.declared.Located.{Located}
 use Rattle.exam_rules.specs.declared.Made.{Made}
 use Rattle.exam_rules.specs.declared.Record.{Record}
 use Rattle.exam_rules.specs.declared.Filled.{Filled}
-use Rattle.exam_rules.proofs.Accept.{ReplaceTakes, AppendAllTakes, foretold}
+use Rattle.exam_rules.specs.declared.Salvaged.{Salvaged}
+use Rattle.exam_rules.proofs.Accept.{ReplaceTakes, AppendAllTakes, foretold, SalvageTakes}
 use Rattle.exam_rules.proofs.Kept.{found-part}
 use Rattle.exam_rules.proofs.Exchanged.{found-old}
 use Rattle.exam_rules.proofs.Staying.{SlotsFit}
-use Rattle.exams.proofs.Claims.{MadeOf, created, grown, exchanged, made-opens, made-fetches, packed-before-fetches, MadeBefore, earlier-opens, earlier-fetches, earlier-cut-is-never-whole, append-fetches, replace-fetches, replace-is-its-parts, replace-is-afresh, cut-is-never-whole, create-numbers, open-numbers, locate-numbers, fetch-numbers, append-numbers, replace-numbers, create-one-answer, fetch-one-answer, append-one-answer, replace-one-answer, fetch-forgets, append-forgets, replace-forgets, refused-create-changes-nothing, refused-locate-tells-nothing, refused-fetch-changes-nothing, refused-append-changes-nothing, refused-replace-changes-nothing, replace-exchanges, replace-keeps-trailer, replace-length, replace-keeps-slots, replace-keeps-blocks, replace-moves-later, replace-puts-block, freed-bytes-are-zero, replace-leaves-the-rest, located-entry, own-exam, located-has, fetch-accepts, append-accepts, replace-accepts, append-all-one-answer, append-all-answers, append-all-accepts, append-all-numbers, append-all-own-exam, append-all-forgets, refused-append-all-changes-nothing, append-all-unopened, refused-record-changes-nothing, append-all-of-none, append-all-of-one, OneAfterAnother, append-all-is-appends, ItsAppends, append-all-has-its-appends, append-all-counts, append-all-opens, append-all-keeps-slots, mapOf, append-all-fetches, made-append-all}
-use Rattle.coil.specs.Calls.{CoilOpens, CoilChecks, CoilPacks, CoilUnpacks, CoilCreates, CoilFinds, CoilFetches, CoilAppends, CoilAppendsAll, CoilReplaces}
+use Rattle.exams.proofs.Claims.{MadeOf, created, grown, exchanged, made-opens, made-fetches, packed-before-fetches, MadeBefore, earlier-opens, earlier-fetches, earlier-cut-is-never-whole, append-fetches, replace-fetches, replace-is-its-parts, replace-is-afresh, cut-is-never-whole, create-numbers, open-numbers, locate-numbers, fetch-numbers, append-numbers, replace-numbers, create-one-answer, fetch-one-answer, append-one-answer, replace-one-answer, fetch-forgets, append-forgets, replace-forgets, refused-create-changes-nothing, refused-locate-tells-nothing, refused-fetch-changes-nothing, refused-append-changes-nothing, refused-replace-changes-nothing, replace-exchanges, replace-keeps-trailer, replace-length, replace-keeps-slots, replace-keeps-blocks, replace-moves-later, replace-puts-block, freed-bytes-are-zero, replace-leaves-the-rest, located-entry, own-exam, located-has, fetch-accepts, append-accepts, replace-accepts, append-all-one-answer, append-all-answers, append-all-accepts, append-all-numbers, append-all-own-exam, append-all-forgets, refused-append-all-changes-nothing, append-all-unopened, refused-record-changes-nothing, append-all-of-none, append-all-of-one, OneAfterAnother, append-all-is-appends, ItsAppends, append-all-has-its-appends, append-all-counts, append-all-opens, append-all-keeps-slots, mapOf, append-all-fetches, made-append-all, salvage-one-answer, salvage-accepts, salvage-numbers, refused-salvage-changes-nothing, salvage-opens, salvage-is-its-bytes, salvage-keeps-bytes, salvage-counts, salvage-stops, salvage-slots, salvage-finds, salvage-places, salvage-of-nothing, salvage-leaves-the-rest, salvage-room, salvage-of-intact, salvage-keeps-those-within, salvage-keeps-no-more, salvage-fetches, salvage-makes, salvage-fits, earlier-salvage-keeps, earlier-salvage-keeps-no-more, earlier-salvage-fits, earlier-salvage-fetches}
+use Rattle.coil.specs.Calls.{CoilOpens, CoilChecks, CoilPacks, CoilUnpacks, CoilCreates, CoilFinds, CoilFetches, CoilAppends, CoilAppendsAll, CoilReplaces, CoilSalvages}
 
 -- ---- there and back
 
@@ -70,7 +74,7 @@ pub coil-replace-fetches : {b : List ℕ} {l exam slot : ℕ} {words fcm dfcm be
     → (s ≡ 0) × (n ≡ length words) × (room' ≡ over words room)
 coil-replace-fetches h v c e q lf ld enough = told (replace-fetches h v c e q lf ld enough)
 
--- A file that coil_create made is one made by create, appends and replaces, with no map yet. (`copied` of MadeOf: so is every copy of such a file.)
+-- A file that coil_create made is one made by create, appends, replaces and salvage, with no map yet. (`copied` of MadeOf: so is every copy of such a file.)
 pub coil-create-makes : {b b' : List ℕ} {exam t r l : ℕ} → exam < 2 ^ 64 → CoilCreates b exam t r b' l → r ≡ 0 → MadeOf exam t [] b' l
 coil-create-makes w c e = created w c e
 
@@ -91,7 +95,12 @@ pub coil-replace-makes : {exam t : ℕ} {ms : List Map} {b : List ℕ} {l slot :
     → MadeOf exam t ms b l → Words words → CoilReplaces b l exam slot words fcm dfcm bench r b' f' d' bench' m → r ≡ 0 → MadeOf exam t (changed slot words ms) b' m
 coil-replace-makes k w c e = exchanged k w c e
 
--- So it is the bytes of the file of the changed list.
+-- Cut to its first k bytes, or not, and salvaged by coil_salvage with its t, for any exam number, it is made of the maps that were kept, renumbered.
+pub coil-salvage-makes : {exam t : ℕ} {ms : List Map} {b : List ℕ} {l : ℕ} → MadeOf exam t ms b l → (k : ℕ) {other r m kept left renumber : ℕ} {file file' : List ℕ} → other < 2 ^ 64
+    → CoilSalvages (take k (take l b)) file other t r file' m kept left renumber → r ≡ 0 → MadeOf other t (renumberedFrom 0 (take kept ms)) file' m
+coil-salvage-makes h k w c e = salvage-makes h k w c e
+
+-- With coil_replace it is the bytes of the file of the changed list.
 pub coil-replace-is-its-parts : (first : List Map) (x : Map) (rest : List Map) {exam t : ℕ} {b : List ℕ} {l : ℕ} {words fcm dfcm bench b' f' d' bench' : List ℕ} {r m : ℕ}
     → MadeOf exam t (first ++ x ∷ rest) b l → Words words → CoilReplaces b l exam (x .slot) words fcm dfcm bench r b' f' d' bench' m → r ≡ 0
     → (take m b' ≡ fileBytes (fileOf exam t (first ++ record { slot = x .slot; words = words } ∷ rest)))
@@ -230,6 +239,10 @@ pub coil-replace-numbers : {b : List ℕ} {l exam slot : ℕ} {words fcm dfcm be
     → List·Mem r (0 ∷ 4 ∷ 7 ∷ 8 ∷ 9 ∷ 10 ∷ 1 ∷ 2 ∷ 3 ∷ [])
 coil-replace-numbers c = replace-numbers c
 
+-- coil_salvage answers 0, 8, 7 or 3.
+pub coil-salvage-numbers : {old b b' : List ℕ} {exam t r m kept left renumber : ℕ} → CoilSalvages old b exam t r b' m kept left renumber → List·Mem r (0 ∷ 8 ∷ 7 ∷ 3 ∷ [])
+coil-salvage-numbers c = salvage-numbers c
+
 -- ---- no second answer
 
 -- Of the number that coil_open answers, the promise admits one value.
@@ -297,6 +310,19 @@ coil-replace-one-answer p q =
     let a = replace-one-answer p q in
     (ap (λ (x : Made). x .number) (a .0), a .1, a .2, a .3, a .4, ap (λ (x : Made). x .length) (a .0))
 
+-- Of coil_salvage's answer, the buffer and the four lent numbers, the promise admits one value each.
+pub coil-salvage-one-answer : {old b b₁ b₂ : List ℕ} {exam t r₁ m₁ k₁ l₁ n₁ r₂ m₂ k₂ l₂ n₂ : ℕ} → CoilSalvages old b exam t r₁ b₁ m₁ k₁ l₁ n₁ → CoilSalvages old b exam t r₂ b₂ m₂ k₂ l₂ n₂
+    → (r₁ ≡ r₂) × (b₁ ≡ b₂) × (m₁ ≡ m₂) × (k₁ ≡ k₂) × (l₁ ≡ l₂) × (n₁ ≡ n₂)
+coil-salvage-one-answer p q =
+    let a = salvage-one-answer p q in (
+      ap (λ (x : Salvaged). x .number) (a .0),
+      a .1,
+      ap (λ (x : Salvaged). x .length) (a .0),
+      ap (λ (x : Salvaged). x .kept) (a .0),
+      ap (λ (x : Salvaged). x .«left_over») (a .0),
+      ap (λ (x : Salvaged). x .renumbered) (a .0),
+    )
+
 -- ---- a refusal puts 0 into every lent number and leaves everything else as it was
 
 -- A refused coil_pack.
@@ -336,6 +362,11 @@ coil-refused-append-all c h z = refused-append-all-changes-nothing c h z
 pub coil-refused-replace : {b : List ℕ} {l exam slot : ℕ} {words fcm dfcm bench b' f' d' bench' : List ℕ} {r m : ℕ} → CoilReplaces b l exam slot words fcm dfcm bench r b' f' d' bench' m → (r ≡ 0 → ⊥)
     → (m ≡ 0) × (b' ≡ b) × (f' ≡ fcm) × (d' ≡ dfcm) × (bench' ≡ bench)
 coil-refused-replace c h = refused-replace-changes-nothing c h
+
+-- A refused coil_salvage.
+pub coil-refused-salvage : {old b b' : List ℕ} {exam t r m kept left renumber : ℕ} → CoilSalvages old b exam t r b' m kept left renumber → (r ≡ 0 → ⊥)
+    → (m ≡ 0) × (kept ≡ 0) × (left ≡ 0) × (renumber ≡ 0) × (b' ≡ b)
+coil-refused-salvage c h = refused-salvage-changes-nothing c h
 
 -- ---- coil_append_all is coil_append, one record after another
 
@@ -490,6 +521,142 @@ coil-freed-bytes-are-zero c e i d h k = freed-bytes-are-zero c e i d h k
 pub coil-replace-leaves-the-rest : {b : List ℕ} {l exam slot : ℕ} {words fcm dfcm bench b' f' d' bench' : List ℕ} {r m : ℕ}
     → CoilReplaces b l exam slot words fcm dfcm bench r b' f' d' bench' m → r ≡ 0 → (i d : ℕ) → m ≤ i → l ≤ i → getD b' i d ≡ getD b i d
 coil-replace-leaves-the-rest c e i d h k = replace-leaves-the-rest c e i d h k
+
+-- ---- what coil_salvage makes of any bytes
+
+-- It answers 0 just where the exam number is not 0, t is at most 16, and the new file fits the buffer and the limit.
+pub coil-salvage-accepts : {old b b' : List ℕ} {exam t r m kept left renumber : ℕ} → CoilSalvages old b exam t r b' m kept left renumber
+    → (r ≡ 0) ↔ SalvageTakes exam t (fileLength (salvagedFile old exam t)) (length b)
+coil-salvage-accepts c = salvage-accepts c
+
+-- A buffer of COIL_SALVAGE_ROOM bytes is always enough (the old bytes, 12 for each block that they can hold, and 32), and so is one of 16,777,216: then it is refused
+-- for room only where the new file is over the limit.
+pub coil-salvage-room : {old b b' : List ℕ} {exam t r m kept left renumber : ℕ} → CoilSalvages old b exam t r b' m kept left renumber → 0 < exam → t ≤ 16
+    → min (length old + 12 * min 1024 (length old / 8) + 32) 16777216 ≤ length b → fileLength (salvagedFile old exam t) ≤ 16777216 → r ≡ 0
+coil-salvage-room c named most room small = salvage-room c named most room small
+
+-- Where it answers 0, coil_open opens the new file for the exam given. (In the file stand the t given and as many entries as blocks were kept.)
+pub coil-salvage-opens : {old b b' : List ℕ} {exam t r m kept left renumber o : ℕ} → exam < 2 ^ 64 → CoilSalvages old b exam t r b' m kept left renumber → r ≡ 0 → CoilOpens b' m exam o
+    → (o ≡ 0) × (openedT (opened b' m exam) ≡ t) × (openedEntries (opened b' m exam) ≡ kept)
+coil-salvage-opens w c e q = let a = salvage-opens w c e in (q ∙ a .0, a .1, a .2)
+
+-- It is the bytes of the file of the blocks that stand whole at the start of the old bytes, with slots from 0 up.
+pub coil-salvage-is-its-bytes : {old b b' : List ℕ} {exam t r m kept left renumber : ℕ} → CoilSalvages old b exam t r b' m kept left renumber → r ≡ 0
+    → take m b' ≡ fileBytes (fileOfPieces exam t (numbered 0 (wholeBlocks 1024 old)))
+coil-salvage-is-its-bytes c e = salvage-is-its-bytes c e
+
+-- The blocks kept are the first of the old bytes, unchanged, and stand at the new file's start.
+pub coil-salvage-keeps-bytes : {old b b' : List ℕ} {exam t r m kept left renumber : ℕ} → CoilSalvages old b exam t r b' m kept left renumber → r ≡ 0
+    → (left ≤ length old) × (take (length old - left) b' ≡ take (length old - left) old)
+coil-salvage-keeps-bytes c e = salvage-keeps-bytes c e
+
+-- The new length is those bytes, 12 for each block kept, and 32. At most 1,024 blocks are kept, each has at least 8 bytes, and the last lent number is 1.
+pub coil-salvage-counts : {old b b' : List ℕ} {exam t r m kept left renumber : ℕ} → CoilSalvages old b exam t r b' m kept left renumber → r ≡ 0
+    → (m + left ≡ length old + 12 * kept + 32) × (kept ≤ 1024) × (8 * kept + left ≤ length old) × (renumber ≡ 1)
+coil-salvage-counts c e = salvage-counts c e
+
+-- It stops only where no well-formed block stands, or where 1,024 were kept.
+pub coil-salvage-stops : {old b b' : List ℕ} {exam t r m kept left renumber : ℕ} → CoilSalvages old b exam t r b' m kept left renumber → r ≡ 0
+    → (kept ≡ 1024) ⊎ (blockStands (drop (length old - left) old) ≡ false)
+coil-salvage-stops c e = salvage-stops c e
+
+-- coil_find finds the slots 0, 1, 2 and so on in it, as many as blocks were kept, and no other.
+pub coil-salvage-slots : {old b b' : List ℕ} {exam t r m kept left renumber : ℕ} → exam < 2 ^ 64 → CoilSalvages old b exam t r b' m kept left renumber → r ≡ 0
+    → (s : ℕ) {n offset size : ℕ} → CoilFinds b' m exam s n offset size → (n ≡ 0) ↔ (s < kept)
+unfolding located
+coil-salvage-slots w c e s q =
+    let n = ap (λ (x : Located). x .number) q in
+    let i = salvage-slots w c e s in
+    ((λ z. i .0 (sym n ∙ z)), (λ h. n ∙ i .1 h))
+
+-- The block that it finds for a slot stands where it stood in the old bytes, with the same bytes, and passes coil_check. It is the one of its place among the whole ones.
+pub coil-salvage-finds : {old b b' : List ℕ} {exam t r m kept left renumber : ℕ} → exam < 2 ^ 64 → CoilSalvages old b exam t r b' m kept left renumber → r ≡ 0
+    → (s : ℕ) → s < kept → {n offset size : ℕ} → CoilFinds b' m exam s n offset size
+    → (n ≡ 0) × (offset + size ≤ length old - left) × (take size (drop offset b') ≡ take size (drop offset old)) × (take size (drop offset old) ≡ getD (wholeBlocks 1024 old) s [])
+    × CoilChecks (take size (drop offset b')) 0
+unfolding located
+coil-salvage-finds {old} {b' = b'} {exam = exam} {m = m} w c e s h q =
+    let z = salvage-slots w c e s .1 h in
+    let places = salvage-places w c e s h in
+    let o = ap (λ (x : Located). x .offset) q in
+    let n = ap (λ (x : Located). x .size) q in
+    let part = found-part b' m exam s z in
+    let handed = salvage-finds w c e h (record { numberLeft = sym z; answer = sym (afterwards-new _ _ [] z) }) in
+    let at = located-entry b' m exam s z in
+    let here : take (located b' m exam s .size) (drop (located b' m exam s .offset) b') ≡ blockIn b' m s = rw (at .0, at .1) (sym part) in
+    rw (o, n) (
+      ap (λ (x : Located). x .number) q ∙ z,
+      places .0,
+      here ∙ places .1,
+      sym (places .1) ∙ handed .1,
+      sym (checks-number _ ∙ rw here (handed .2)),
+    )
+
+-- Where nothing is kept the new file is the empty one that coil_create makes.
+pub coil-salvage-of-nothing : {old b b' : List ℕ} {exam t r m kept left renumber : ℕ} → CoilSalvages old b exam t r b' m kept left renumber → r ≡ 0 → kept ≡ 0
+    → (m ≡ 32) × (take 32 b' ≡ fileBytes (empty exam t)) × (left ≡ length old)
+coil-salvage-of-nothing c e z = salvage-of-nothing c e z
+
+-- Beyond the new file the buffer is as it was.
+pub coil-salvage-leaves-the-rest : {old b b' : List ℕ} {exam t r m kept left renumber : ℕ} → CoilSalvages old b exam t r b' m kept left renumber → r ≡ 0 → (i d : ℕ) → m ≤ i → getD b' i d ≡ getD b i d
+coil-salvage-leaves-the-rest c e i d h = salvage-leaves-the-rest c e i d h
+
+-- ---- what coil_salvage makes of a file
+
+-- Of every file that coil_open opens, where all blocks that coil_find finds pass coil_check, it keeps all, in their order, and 12 bytes for each entry and 32 are left over.
+pub coil-salvage-of-intact : (f : List ℕ) (exam : ℕ) {file file' : List ℕ} {other t r m kept left renumber : ℕ} → CoilOpens f (length f) exam 0
+    → ((slot offset size : ℕ) → CoilFinds f (length f) exam slot 0 offset size → CoilChecks (take size (drop offset f)) 0) → CoilSalvages f file other t r file' m kept left renumber → r ≡ 0
+    → (wholeBlocks 1024 f ≡ map (blockOf (fileIn f)) (fileIn f .entries)) × (kept ≡ openedEntries (opened f (length f) exam)) × (left ≡ 12 * openedEntries (opened f (length f) exam) + 32)
+coil-salvage-of-intact f exam o w c e = salvage-of-intact f exam (sym o) (all-whole f (length f) exam w) c e
+
+-- Cut a file made by these calls to its first k bytes, and salvage what is left. A map is kept just where its block, where coil_find found it before the cut, ends within
+-- the cut.
+pub coil-salvage-keeps-those-within : (first : List Map) (x : Map) (rest : List Map) {exam t : ℕ} {b : List ℕ} {l : ℕ} → MadeOf exam t (first ++ x ∷ rest) b l
+    → (k : ℕ) {other u r m kept left renumber : ℕ} {file file' : List ℕ} → CoilSalvages (take k (take l b)) file other u r file' m kept left renumber → r ≡ 0
+    → {n offset size : ℕ} → CoilFinds b l exam (x .slot) n offset size → (length first < kept) ↔ (offset + size ≤ k)
+coil-salvage-keeps-those-within first x rest h k c e q =
+    rw (ap (λ (y : Located). y .offset) q, ap (λ (y : Located). y .size) q) (salvage-keeps-those-within first x rest h k c e)
+
+-- And no more blocks are kept than there are maps.
+pub coil-salvage-keeps-no-more : {exam t : ℕ} {ms : List Map} {b : List ℕ} {l : ℕ} → MadeOf exam t ms b l → (k : ℕ) {other u r m kept left renumber : ℕ} {file file' : List ℕ}
+    → CoilSalvages (take k (take l b)) file other u r file' m kept left renumber → r ≡ 0 → kept ≤ length ms
+coil-salvage-keeps-no-more h k c e = salvage-keeps-no-more h k c e
+
+-- coil_fetch then gives back its words, with the file's t and tables of 2 ^ t words. Its slot is the number of the maps before it.
+pub coil-salvage-fetches : (first : List Map) (x : Map) (rest : List Map) {exam t : ℕ} {b : List ℕ} {l : ℕ} → MadeOf exam t (first ++ x ∷ rest) b l
+    → (k : ℕ) {other r m kept left renumber : ℕ} {file file' : List ℕ} → other < 2 ^ 64 → CoilSalvages (take k (take l b)) file other t r file' m kept left renumber → r ≡ 0 → length first < kept
+    → {fcm dfcm room fcm' dfcm' room' : List ℕ} {s n : ℕ} → CoilFetches file' m other (length first) fcm dfcm room s fcm' dfcm' room' n
+    → length fcm ≡ 2 ^ t → length dfcm ≡ 2 ^ t → length (x .words) ≤ length room → (s ≡ 0) × (n ≡ length (x .words)) × (room' ≡ over (x .words) room)
+coil-salvage-fetches first x rest h k w c e within q lf ld enough = told (salvage-fetches first x rest h k w c e within q lf ld enough)
+
+-- A buffer as long as the file was before the cut is enough.
+pub coil-salvage-fits : {exam t : ℕ} {ms : List Map} {b : List ℕ} {l : ℕ} → MadeOf exam t ms b l → (k : ℕ) {other u r m kept left renumber : ℕ} {file file' : List ℕ}
+    → CoilSalvages (take k (take l b)) file other u r file' m kept left renumber → 0 < other → u ≤ 16 → l ≤ length file → r ≡ 0
+coil-salvage-fits h k c named most room = salvage-fits h k c named most room
+
+-- Of a file with maps that were packed before request L2, too, a map is kept just where its block ends within the cut,
+pub coil-earlier-salvage-keeps : (first : List Map) (x : Map) (rest : List Map) {exam t : ℕ} {b : List ℕ} {l : ℕ} → MadeBefore exam t (first ++ x ∷ rest) b l
+    → (k : ℕ) {other u r m kept left renumber : ℕ} {file file' : List ℕ} → CoilSalvages (take k (take l b)) file other u r file' m kept left renumber → r ≡ 0
+    → {n offset size : ℕ} → CoilFinds b l exam (x .slot) n offset size → (length first < kept) ↔ (offset + size ≤ k)
+coil-earlier-salvage-keeps first x rest h k c e q =
+    rw (ap (λ (y : Located). y .offset) q, ap (λ (y : Located). y .size) q) (earlier-salvage-keeps first x rest h k c e)
+
+-- no more blocks are kept than there are maps,
+pub coil-earlier-salvage-keeps-no-more : {exam t : ℕ} {ms : List Map} {b : List ℕ} {l : ℕ} → MadeBefore exam t ms b l → (k : ℕ) {other u r m kept left renumber : ℕ} {file file' : List ℕ}
+    → CoilSalvages (take k (take l b)) file other u r file' m kept left renumber → r ≡ 0 → kept ≤ length ms
+coil-earlier-salvage-keeps-no-more h k c e = earlier-salvage-keeps-no-more h k c e
+
+-- a buffer as long as the file was is enough,
+pub coil-earlier-salvage-fits : {exam t : ℕ} {ms : List Map} {b : List ℕ} {l : ℕ} → MadeBefore exam t ms b l → (k : ℕ) {other u r m kept left renumber : ℕ} {file file' : List ℕ}
+    → CoilSalvages (take k (take l b)) file other u r file' m kept left renumber → 0 < other → u ≤ 16 → l ≤ length file → r ≡ 0
+coil-earlier-salvage-fits h k c named most room = earlier-salvage-fits h k c named most room
+
+-- and coil_fetch gives back the words of a map that is kept.
+pub coil-earlier-salvage-fetches : (first : List Map) (x : Map) (rest : List Map) {exam t : ℕ} {b : List ℕ} {l : ℕ} → MadeBefore exam t (first ++ x ∷ rest) b l
+    → (k : ℕ) {other r m kept left renumber : ℕ} {file file' : List ℕ} → other < 2 ^ 64 → CoilSalvages (take k (take l b)) file other t r file' m kept left renumber → r ≡ 0 → length first < kept
+    → {fcm dfcm room fcm' dfcm' room' : List ℕ} {s n : ℕ} → CoilFetches file' m other (length first) fcm dfcm room s fcm' dfcm' room' n
+    → length fcm ≡ 2 ^ t → length dfcm ≡ 2 ^ t → length (x .words) ≤ length room → (s ≡ 0) × (n ≡ length (x .words)) × (room' ≡ over (x .words) room)
+coil-earlier-salvage-fetches first x rest h k w c e within q lf ld enough = told (earlier-salvage-fetches first x rest h k w c e within q lf ld enough)
 
 -- ---- what the tables held before plays no part
 

@@ -3,7 +3,7 @@ use mathlib.Core.Path.{_≡_}
 use Prim.Native.Nat.{ℕ}
 use mathlib.Core.List.{List}
 use Rattle.block_rules.specs.Calls.{Packs, checked, Unpacks}
-use Rattle.exam_rules.specs.Calls.{opened, openedNumber, located, Fetches, Creates, Appends, AppendsAll, Replaces}
+use Rattle.exam_rules.specs.Calls.{opened, openedNumber, located, Fetches, Creates, Appends, AppendsAll, Replaces, Salvages}
 use Rattle.exam_rules.specs.declared.Record.{Record}
 
 -- coil_open(file, length, exam): open's number alone
@@ -48,3 +48,8 @@ CoilAppendsAll b l exam records words fcm dfcm bench r b' fcm' dfcm' bench' appe
 abbrev pub CoilReplaces : (b : List ℕ) → (length exam slot : ℕ) → (words fcm dfcm bench : List ℕ) → (r : ℕ) → (b' fcm' dfcm' bench' : List ℕ) → (newLength : ℕ) → Type 0
 CoilReplaces b l exam slot words fcm dfcm bench r b' fcm' dfcm' bench' length =
     Replaces b l exam slot words fcm dfcm bench (record { number = r; length = length }) b' fcm' dfcm' bench'
+
+-- coil_salvage(old, file, exam, t, new_length, kept, left_over, renumbered), as salvage
+abbrev pub CoilSalvages : (old b : List ℕ) → (exam t : ℕ) → (r : ℕ) → (b' : List ℕ) → (newLength kept leftOver renumbered : ℕ) → Type 0
+CoilSalvages old b exam t r b' length kept leftOver renumbered =
+    Salvages old b exam t (record { number = r; length = length; kept = kept; «left_over» = leftOver; renumbered = renumbered }) b'

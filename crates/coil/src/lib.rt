@@ -1,6 +1,6 @@
 // The calls of the store for C: each is the store's own call, with its number as the answer and what
 // else it tells put into lent numbers. include/coil.h declares them.
-ghost use Rattle.coil.specs.Calls.{CoilOpens, CoilChecks, CoilPacks, CoilUnpacks, CoilCreates, CoilFinds, CoilFetches, CoilAppends, CoilAppendsAll, CoilReplaces};
+ghost use Rattle.coil.specs.Calls.{CoilOpens, CoilChecks, CoilPacks, CoilUnpacks, CoilCreates, CoilFinds, CoilFetches, CoilAppends, CoilAppendsAll, CoilReplaces, CoilSalvages};
 use exams::Record;
 
 // Opens the file in the first bytes of a buffer for an exam number, which must be its own.
@@ -159,4 +159,26 @@ pub extern "C" fn coil_replace(
     let reply = exams::replace(file, length, exam, slot, words, fcm, dfcm, bench);
     *new_length = reply.length;
     reply.number
+}
+
+// Makes a new file, in another buffer, of the blocks that stand whole at the start of old bytes.
+#[no_mangle]
+pub extern "C" fn coil_salvage(
+    old: &[u8],
+    file: &mut [u8],
+    exam: u64,
+    t: u32,
+    new_length: &mut usize,
+    kept: &mut usize,
+    left_over: &mut usize,
+    renumbered: &mut u32,
+) -> u32
+    ensures { λ r. ⌜ CoilSalvages (now (old .entry)) (now (file .entry)) exam t r (now (file .exit)) (now («new_length» .exit)) (now (kept .exit)) (now («left_over» .exit)) (now (renumbered .exit)) ⌝ }
+{
+    let told = exams::salvage(old, file, exam, t);
+    *new_length = told.length;
+    *kept = told.kept;
+    *left_over = told.left_over;
+    *renumbered = told.renumbered;
+    told.number
 }

@@ -19,7 +19,7 @@ use Rattle.block_rules.proofs.Tables.{sized-power}
 use Rattle.block_rules.proofs.Accept.{where-number}
 use Rattle.exam_rules.specs.File.{Entry, entry, File, mark}
 use Rattle.exam_rules.specs.Reading.{markIn, editionIn, tIn, examIn, distanceIn, entriesIn, lengthIn, fileIn, indexOf, entryOf}
-use Rattle.exam_rules.specs.Numbers.{mostBytes, joins, entriesNumber, directoryNumber, openInNumber, slotNumber, findNumber, blockIn, fileTablesNumber, foundNumber, fetchNumber, createNumber, nextSlot, storeNumber, appendNumber, recordNumber, replaceNumber}
+use Rattle.exam_rules.specs.Numbers.{mostBytes, joins, entriesNumber, directoryNumber, openInNumber, slotNumber, findNumber, blockIn, fileTablesNumber, foundNumber, fetchNumber, createNumber, nextSlot, storeNumber, appendNumber, recordNumber, replaceNumber, salvageNumber}
 use Rattle.exam_rules.specs.Calls.{trailerOf, opened, openedNumber, fetchesNumber, Fetches, appendsNumber, wordsOf, filled}
 use Rattle.exam_rules.specs.declared.Record.{Record}
 use Rattle.exam_rules.specs.declared.Filled.{Filled}
@@ -438,6 +438,35 @@ unfolding replaceNumber
 takes-replace b l exam slot n f d bench k =
     let store = store-passes _ _ _ _ _ (length b) _ (k .fcmLong) (k .dfcmLong) (k .fewWords) (k .bufferRoom) (k .fileRoom) (k .benchRoom) in
     sym (fails-later _ _ _ (takes-find b l exam slot (k .finds)) (sym store ∙ last-decides _))
+
+-- ---- salvage
+
+-- what salvage needs, where the new file has l bytes: an exam number, t of at most 16, and room for the new file in the buffer and under the limit
+pub record SalvageTakes (exam t l room : ℕ) : Type 0 where
+  pub named : 0 < exam
+  pub most : t ≤ 16
+  pub bufferRoom : l ≤ room
+  pub fileRoom : l ≤ 16777216
+
+pub salvage-takes : (exam t l room : ℕ) → salvageNumber exam t l room ≡ 0 → SalvageTakes exam t l room
+unfolding salvageNumber
+salvage-takes exam t l room z =
+    let a = none-fails _ _ z in
+    let b = none-fails _ _ (a .1) in
+    let least : l ≤ min room mostBytes = leb-true _ _ (unless-holds _ _ (none-fails _ _ (b .1) .0) (omega arith)) in
+    record {
+      named = ltb-true _ _ (unless-holds _ _ (a .0) (omega arith));
+      most = leb-true _ _ (unless-holds _ _ (b .0) (omega arith));
+      bufferRoom = omega arith;
+      fileRoom = omega arith;
+    }
+
+pub takes-salvage : (exam t l room : ℕ) → SalvageTakes exam t l room → salvageNumber exam t l room ≡ 0
+unfolding salvageNumber
+takes-salvage exam t l room k =
+    sym
+    (passes _ _ _ _ (lt-ltb _ _ (k .named))
+    (passes _ _ _ _ (le-leb _ _ (k .most)) (passes _ _ _ _ (le-leb l (min room mostBytes) (omega (arith, k .bufferRoom, k .fileRoom))) all-pass)))
 
 -- ---- the numbers that answers hold
 

@@ -11,7 +11,7 @@ use Rattle.answers.proofs.OneOf.{one-of-more, no-check-one-of, verdict-one-of, 
 use Rattle.block_rules.proofs.Answered.{block-one-of}
 use Rattle.exam_rules.specs.File.{Entry, File}
 use Rattle.exam_rules.specs.Reading.{fileIn}
-use Rattle.exam_rules.specs.Numbers.{entriesNumber, directoryNumber, fieldsNumber, trailerNumber, openNumber, openInNumber, slotNumber, findNumber, blockIn, fileTablesNumber, foundNumber, fetchNumber, createNumber, storeNumber, appendNumber, recordNumber, replaceNumber}
+use Rattle.exam_rules.specs.Numbers.{entriesNumber, directoryNumber, fieldsNumber, trailerNumber, openNumber, openInNumber, slotNumber, findNumber, blockIn, fileTablesNumber, foundNumber, fetchNumber, createNumber, storeNumber, appendNumber, recordNumber, replaceNumber, salvageNumber}
 use Rattle.exam_rules.specs.Calls.{Lent, appendsNumber, AppendsAll}
 use Rattle.exam_rules.specs.declared.Record.{Record}
 use Rattle.exam_rules.specs.declared.Filled.{Filled}
@@ -107,3 +107,7 @@ unfolding replaceNumber
 replace-one-of b l exam slot n f d bench =
     verdict-one-of _ _ (one-of-more _ _ (find-one-of b l exam slot) refl)
     (verdict-one-of _ _ (one-of-more _ _ (store-one-of _ n f d _ (length b) bench) refl) (no-check-one-of _))
+
+pub salvage-one-of : (exam t l room : ℕ) → List·Mem (salvageNumber exam t l room) (0 ∷ 8 ∷ 7 ∷ 3 ∷ [])
+unfolding salvageNumber
+salvage-one-of exam t l room = check-one-of _ 8 _ (check-one-of _ 7 _ (check-one-of _ 3 _ (no-check-one-of _) refl) refl) refl

@@ -27,17 +27,21 @@ use Rattle.exam_rules.proofs.Pieces.{Wholes, length-pieces}
 
 -- ---- the two fields at the head of what stands at a place
 
-block-states : (b x : List ℕ) → blockNumber b ≡ 0 → statedLength (b ++ x) ≡ length b
+pub block-states : (b x : List ℕ) → blockNumber b ≡ 0 → statedLength (b ++ x) ≡ length b
 block-states b x z = let w = whole b z in stated-first b x (w .long) ∙ w .stated
 
 block-counts : (b x : List ℕ) → blockNumber b ≡ 0 → count (b ++ x) ≤ 65536
 block-counts b x z = let w = whole b z in rw (ap number (take-append-le 4 b x (omega (arith, w .long)))) (w .few)
 
--- a file of pieces longer than a trailer has a piece; its directory starts with the entry of the first block, whose offset is 0
-tail-states : (exam t : ℕ) (ps : List Piece) (x : List ℕ) → 32 < fileLength (fileOfPieces exam t ps) → statedLength (directoryBytes (entriesOf 0 ps) ++ x) ≡ 0
+-- the directory of pieces starts with the entry of the first block, whose offset is 0
+pub entries-state : (p : Piece) (ps : List Piece) (x : List ℕ) → statedLength (directoryBytes (entriesOf 0 (p ∷ ps)) ++ x) ≡ 0
 unfolding entryBytes
+entries-state p ps x = refl
+
+-- a file of pieces longer than a trailer has a piece
+tail-states : (exam t : ℕ) (ps : List Piece) (x : List ℕ) → 32 < fileLength (fileOfPieces exam t ps) → statedLength (directoryBytes (entriesOf 0 ps) ++ x) ≡ 0
 tail-states exam t [] x h = absurd (omega arith)
-tail-states exam t (p ∷ ps) x h = refl
+tail-states exam t (p ∷ ps) x h = entries-state p ps x
 
 -- ---- the walk over the blocks of a first part
 
@@ -79,13 +83,46 @@ module _ (b tail : List ℕ) (k to : ℕ) (long : k ≤ length b) (inside : to �
       let r = walk es ps (x .slot + 1) (x .offset + x .size) ws (h .rest) (λ i l. w (suc i) (omega arith)) e2 in
       record { pieces = r .pieces; wholes = r .wholes; there = r .there; many = omega (arith, r .many) }
 
+-- ---- what stands where the directory of a file starts
+
+module _ (b : List ℕ) (k asked : ℕ) (z : openInNumber b k asked ≡ 0) where
+  abbrev part : List ℕ
+  part = take k b
+
+  o : OpensIn b k asked
+  o = opens-in b k asked z
+
+  abbrev s : ℕ
+  s = directoryAt part
+
+  ends : s + 12 * entriesIn part + 32 ≡ k
+  ends = trails-ends part (o .is .trailer) ∙ o .long
+
+  keeps : entriesNumber joins 0 0 (entriesAt part s (entriesIn part)) s ≡ 0
+  keeps = sym (directory-is part) ∙ o .is .directory
+
+  first-offset : (n : ℕ) → entriesNumber joins 0 0 (entriesAt part s (suc n)) s ≡ 0 → field 4 (s + 4) part ≡ 0
+  unfolding entryAt
+  first-offset n z = sym (joins-equal _ _ (heads joins 0 0 (entryAt part s) (entriesAt part (s + 12) n) s z .joined))
+
+  -- with entries, the first offset is read as the length of a block, which is 0
+  pub directory-states : (n : ℕ) → entriesIn part ≡ suc n → statedLength (drop s b) ≡ 0
+  directory-states n e =
+      ap (λ (x : List ℕ). number (take 4 x)) (drop-drop 4 s b)
+      ∙ sym (ap number (part-of-first 4 (s + 4) k b (omega (arith, ends, e))))
+      ∙ first-offset n (rw e at keeps)
+
+  -- with none, the file's first bytes are the mark, which is read as the count of a block
+  pub directory-counts : entriesIn part ≡ 0 → (s ≡ 0) × (count b ≡ number mark)
+  directory-counts e =
+      let y : 0 ≡ s = joins-equal 0 s (unless-holds _ _ (rw e at keeps) (omega arith)) in
+      let a : length part - 32 ≡ 0 = omega (arith, ends, o .long) in
+      (sym y, sym (ap number (part-of-first 4 0 k b (omega (arith, ends)))) ∙ ap number (rw a at (same-equal (markIn part) mark (o .is .trailer .marked))))
+
 -- ---- a proper first part of a file of pieces, in a buffer that holds the file
 
 module _ (exam t : ℕ) (ps : List Piece) {b : List ℕ} {l : ℕ} (h : Holds b l (fileOfPieces exam t ps)) (ws : Wholes ps) (k asked : ℕ) (short : k < l)
     (z : openInNumber b k asked ≡ 0) where
-  abbrev part : List ℕ
-  part = take k b
-
   -- what stands behind the blocks
   abbrev tail : List ℕ
   tail = directoryBytes (entriesOf 0 ps) ++ (trailerBytes 1 t exam (length (entriesOf 0 ps)) (fileLength (fileOfPieces exam t ps)) ++ drop l b)
@@ -97,56 +134,44 @@ module _ (exam t : ℕ) (ps : List Piece) {b : List ℕ} {l : ℕ} (h : Holds b 
   length-tail : length tail + l ≡ 12 * length ps + 32 + length b
   length-tail = omega (arith, ap length starts, length-append (blocksOf ps) tail, holds-length h, length-pieces 0 ps)
 
-  o : OpensIn b k asked
-  o = opens-in b k asked z
+  abbrev first : List ℕ
+  first = take k b
 
-  -- a field of the part is a field of the file
-  part-field : (n at : ℕ) → at + n ≤ k → field n at part ≡ field n at b
-  part-field n at h = ap number (part-of-first n at k b h)
+  abbrev at : ℕ
+  at = directoryAt first
 
-  abbrev s : ℕ
-  s = directoryAt part
-
-  ends : s + 12 * entriesIn part + 32 ≡ k
-  ends = trails-ends part (o .is .trailer) ∙ o .long
-
-  keeps : entriesNumber joins 0 0 (entriesAt part s (entriesIn part)) s ≡ 0
-  keeps = sym (directory-is part) ∙ o .is .directory
-
-  -- no block of the file can stand where the part's directory starts: with entries, its length field would be 0
-  no-first-entry : (n : ℕ) → entriesNumber joins 0 0 (entriesAt part s (suc n)) s ≡ 0 → s + 12 ≤ k → field 4 (s + 4) b ≡ 0
-  unfolding entryAt
-  no-first-entry n z h =
-      sym (part-field 4 (s + 4) (omega arith)) ∙ sym (joins-equal _ _ (heads joins 0 0 (entryAt part s) (entriesAt part (s + 12) n) s z .joined))
-
-  -- with none, its count would be the mark
-  no-mark : entriesIn part ≡ 0 → s ≡ 0 → count b ≡ number mark
-  no-mark n z =
-      let a : length part - 32 ≡ 0 = omega (arith, ends, o .long) in
-      sym (part-field 4 0 (omega (arith, ends))) ∙ ap number (rw a at (same-equal (markIn part) mark (o .is .trailer .marked)))
-
-  finish : (n : ℕ) → n ≡ entriesIn part → (left : List Piece) → Wholes left → drop s b ≡ blocksOf left ++ tail → n + length left ≡ length ps → ⊥
-  finish n q [] ws e m = omega (arith, ap length e, length-drop s b, length-tail, ends, o .within)
+  -- no block of the file can stand where the part's directory starts
+  finish : (n : ℕ) → n ≡ entriesIn first → (left : List Piece) → Wholes left → drop at b ≡ blocksOf left ++ tail → n + length left ≡ length ps → ⊥
+  finish n q [] ws e m = omega (arith, ap length e, length-drop at b, length-tail, ends b k asked z, o b k asked z .within)
   finish zero q (p ∷ left) (more v ws) e m =
-      let y : 0 ≡ s = joins-equal 0 s (unless-holds _ _ (rw (← q) at keeps) (omega arith)) in
-      let c : count b ≤ 65536 = rw (ap count (rw (← y) at e) ∙ ap count (append-assoc (p .block) (blocksOf left) tail)) (block-counts (p .block) (blocksOf left ++ tail) v) in
-      omega (arith, no-mark (sym q) (sym y))
+      let y = directory-counts b k asked z (sym q) in
+      let c : count b ≤ 65536 = rw (ap count (rw (y .0) at e) ∙ ap count (append-assoc (p .block) (blocksOf left) tail)) (block-counts (p .block) (blocksOf left ++ tail) v) in
+      omega (arith, y .1)
   finish (suc n) q (p ∷ left) (more v ws) e m =
-      let a = no-first-entry n (rw (← q) at keeps) (omega (arith, ends)) in
-      let c : field 4 (s + 4) b ≡ length (p .block) =
-      ap (λ (x : List ℕ). number (take 4 x)) (sym (drop-drop 4 s b))
-      ∙ ap statedLength (e ∙ append-assoc (p .block) (blocksOf left) tail)
-      ∙ block-states (p .block) (blocksOf left ++ tail) v in
-      omega (arith, whole (p .block) v .long)
+      let c = ap statedLength (e ∙ append-assoc (p .block) (blocksOf left) tail) ∙ block-states (p .block) (blocksOf left ++ tail) v in
+      omega (arith, c, directory-states b k asked z n (sym q), whole (p .block) v .long)
 
-  never : ((i : ℕ) → i < length (fileIn part .entries) → blockNumber (blockOf (fileIn part) (getD (fileIn part .entries) i (entry 0 0 0))) ≡ 0) → ⊥
+  never : ((i : ℕ) → i < length (fileIn first .entries) → blockNumber (blockOf (fileIn first) (getD (fileIn first .entries) i (entry 0 0 0))) ≡ 0) → ⊥
   unfolding fileIn blockOf
   never w =
-      let x : 32 < fileLength (fileOfPieces exam t ps) = omega (arith, o .is .trailer .long, o .long, holds-length h) in
-      let r = walk b tail k s (o .within) (omega (arith, ends)) (tail-states exam t ps _ x) (entriesAt part s (entriesIn part)) ps 0 0 ws keeps w starts in
-      finish (entriesIn part) refl (r .pieces) (r .wholes) (r .there) (omega (arith, r .many, length-entries part (entriesIn part) s))
+      let i = o b k asked z in
+      let x : 32 < fileLength (fileOfPieces exam t ps) = omega (arith, i .is .trailer .long, i .long, holds-length h) in
+      let r =
+      walk b tail k at (i .within) (omega (arith, ends b k asked z)) (tail-states exam t ps _ x) (entriesAt first at (entriesIn first)) ps 0 0 ws (keeps b k asked z) w starts in
+      finish (entriesIn first) refl (r .pieces) (r .wholes) (r .there) (omega (arith, r .many, length-entries first (entriesIn first) at))
 
 -- ---- the same of a copy, slot by slot
+
+-- where the blocks of all slots that are found are whole, so is the block of each entry
+pub each-whole : (b : List ℕ) (l exam : ℕ) → openInNumber b l exam ≡ 0 → ((s : ℕ) → findNumber b l exam s ≡ 0 → blockNumber (blockIn b l s) ≡ 0)
+    → (i : ℕ) → i < length (fileIn (take l b) .entries) → blockNumber (blockOf (fileIn (take l b)) (getD (fileIn (take l b) .entries) i (entry 0 0 0))) ≡ 0
+unfolding blockIn entryOf
+each-whole b l exam z w i below =
+    let f = fileIn (take l b) in
+    let e = getD (f .entries) i (entry 0 0 0) in
+    let index = index-of-entry f i (entry 0 0 0) (opens-in b l exam z .is .directory) below in
+    let its = no-default (f .entries) i (entry (e .slot) 0 0) (entry 0 0 0) below in
+    rw (index, its) at (w (e .slot) (find-passes b l exam (e .slot) z (rw index below)))
 
 module _ (exam t : ℕ) (ps : List Piece) {b : List ℕ} {l : ℕ} (h : Holds b l (fileOfPieces exam t ps)) (ws : Wholes ps) (k asked : ℕ) (short : k < l) (c : List ℕ)
     (same : take k c ≡ take k b) (z : openInNumber c k asked ≡ 0) where
@@ -155,13 +180,4 @@ module _ (exam t : ℕ) (ps : List Piece) {b : List ℕ} {l : ℕ} (h : Holds b 
   opens-there = opens-in-keep b k asked (omega (arith, h .within)) (rw (← same) (opens-in c k asked z .is))
 
   pub never-all-whole : ((s : ℕ) → findNumber c k asked s ≡ 0 → blockNumber (blockIn c k s) ≡ 0) → ⊥
-  unfolding blockIn entryOf
-  never-all-whole w =
-      never exam t ps h ws k asked short opens-there
-      (rw (← same)
-      (λ i below.
-      let f = fileIn (take k c) in
-      let e = getD (f .entries) i (entry 0 0 0) in
-      let index = index-of-entry f i (entry 0 0 0) (opens-in c k asked z .is .directory) below in
-      let its = no-default (f .entries) i (entry (e .slot) 0 0) (entry 0 0 0) below in
-      rw (index, its) at (w (e .slot) (find-passes c k asked (e .slot) z (rw index below)))))
+  never-all-whole w = never exam t ps h ws k asked short opens-there (rw (← same) (each-whole c k asked z w))

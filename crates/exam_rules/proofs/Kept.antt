@@ -86,18 +86,18 @@ module _ (b : List ℕ) (l exam s : ℕ) (z : findNumber b l exam s ≡ 0) where
   found-size = block-long (fileIn (take l b)) _ (entry s 0 0) (found-opens .is .directory) found-below
 
   -- the block ends before the directory, so within the file, and is the bytes at its place in the buffer
-  ends : entryOf s (fileIn (take l b)) .offset + entryOf s (fileIn (take l b)) .size ≤ directoryAt (take l b)
+  pub found-ends : entryOf s (fileIn (take l b)) .offset + entryOf s (fileIn (take l b)) .size ≤ directoryAt (take l b)
   unfolding entryOf
-  ends = omega (arith, block-within (fileIn (take l b)) _ (entry s 0 0) (found-opens .is .directory) found-below, body-long (take l b))
+  found-ends = omega (arith, block-within (fileIn (take l b)) _ (entry s 0 0) (found-opens .is .directory) found-below, body-long (take l b))
 
   pub found-within : entryOf s (fileIn (take l b)) .offset + entryOf s (fileIn (take l b)) .size ≤ l
-  found-within = omega (arith, ends, trails-ends (take l b) (found-opens .is .trailer), found-opens .long)
+  found-within = omega (arith, found-ends, trails-ends (take l b) (found-opens .is .trailer), found-opens .long)
 
   pub found-part : blockIn b l s ≡ take (entryOf s (fileIn (take l b)) .size) (drop (entryOf s (fileIn (take l b)) .offset) b)
   unfolding blockIn blockOf fileIn
   found-part =
       let x = entryOf s (fileIn (take l b)) in
-      part-of-first (x .size) (x .offset) (directoryAt (take l b)) (take l b) ends ∙ part-of-first (x .size) (x .offset) l b found-within
+      part-of-first (x .size) (x .offset) (directoryAt (take l b)) (take l b) found-ends ∙ part-of-first (x .size) (x .offset) l b found-within
 
   -- so it has the entry's bytes, at least 8 of them
   pub found-long : 8 ≤ length (blockIn b l s)

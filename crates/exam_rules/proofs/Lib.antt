@@ -18,6 +18,8 @@ pub mod Kept
 pub mod Staying
 pub mod Exchanged
 pub mod Pieces
+pub mod Salvage
 pub mod Maps
 pub mod Cut
+pub mod Rescued
 pub mod Claims

@@ -21,7 +21,7 @@ use Rattle.exam_rules.specs.Reading.{indexOf, entryOf}
 use Rattle.exam_rules.specs.Numbers.{directoryNumber}
 use Rattle.exam_rules.specs.Calls.{Replaces}
 use Rattle.exam_rules.specs.Pieces.{Piece, blocksOf, entriesOf, fileOfPieces}
-use Rattle.exam_rules.specs.Maps.{Map, pieceOf, fileOf, pieceBy, fileBy, changed}
+use Rattle.exam_rules.specs.Maps.{Map, pieceOf, fileOf, pieceBy, fileBy, changed, renumberedFrom}
 use Rattle.exam_rules.specs.declared.Made.{Made}
 use Rattle.exam_rules.proofs.Lengths.{length-file}
 use Rattle.exam_rules.proofs.Accept.{find-tells}
@@ -191,3 +191,9 @@ changed-fit slot words few wide none = none
 changed-fit slot words few wide (more {x = m} f r) =
     let fits : Fit (record { slot = m .slot; words = words }) = record { few = few; wide = wide } in
     either (eqb (m .slot) slot) (λ q. rw q (more fits r)) (λ q. rw q (more f (changed-fit slot words few wide r)))
+
+pub renumbered-fit : (slot : ℕ) {ms : List Map} → Each Fit ms → Each Fit (renumberedFrom slot ms)
+renumbered-fit slot none = none
+renumbered-fit slot (more {x = m} f r) =
+    let fits : Fit (record { slot = slot; words = m .words }) = record { few = f .few; wide = f .wide } in
+    more fits (renumbered-fit (slot + 1) r)

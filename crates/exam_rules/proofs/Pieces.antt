@@ -112,8 +112,13 @@ module _ {b : List ℕ} {l exam t : ℕ} {p : Piece} (h : HoldsPiece b l exam t 
   slot-index = rw (entry-at its) at (index-of-entry file (length (h .first)) its (h .holds .good .directory) below)
 
   -- its slot is found
-  piece-found : findNumber b l exam (p .slot) ≡ 0
+  pub piece-found : findNumber b l exam (p .slot) ≡ 0
   piece-found = find-passes b l exam (p .slot) (holds-opens (h .holds)) (rw (holds-parts (h .holds), slot-index) below)
+
+  -- its entry tells where its block stands
+  pub piece-entry : entryOf (p .slot) (fileIn (take l b)) ≡ its
+  unfolding entryOf
+  piece-entry = rw (holds-parts (h .holds), slot-index, entry-at _)
 
   -- its block is the piece's
   piece-block : blockIn b l (p .slot) ≡ p .block

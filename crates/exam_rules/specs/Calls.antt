@@ -1,6 +1,6 @@
 -- What each call on a file answers, and what it leaves in everything lent to it, refused or not.
 use mathlib.Core.Path.{_≡_}
-use Prim.Native.Nat.{ℕ, _+_}
+use Prim.Native.Nat.{ℕ, _+_, _-_}
 use mathlib.Core.List.{List, [], _∷_}
 use mathlib.Core.Bool.{cond}
 use lib.Dec.{eqb}
@@ -12,11 +12,13 @@ use Rattle.block_rules.specs.Calls.{UnpacksWhere}
 use Rattle.block_rules.specs.declared.Unpacked.{Unpacked}
 use Rattle.exam_rules.specs.File.{File, fileLength, fileBytes, empty, appended, replaced}
 use Rattle.exam_rules.specs.Reading.{fileIn, entryOf}
-use Rattle.exam_rules.specs.Numbers.{openInNumber, findNumber, fetchNumber, blockIn, createNumber, appendNumberTo, recordNumberTo, replaceNumber}
+use Rattle.exam_rules.specs.Numbers.{openInNumber, findNumber, fetchNumber, blockIn, createNumber, appendNumberTo, recordNumberTo, replaceNumber, salvageNumber}
+use Rattle.exam_rules.specs.Salvage.{salvagedFile}
 use Rattle.exam_rules.specs.declared.Located.{Located}
 use Rattle.exam_rules.specs.declared.Made.{Made}
 use Rattle.exam_rules.specs.declared.Record.{Record}
 use Rattle.exam_rules.specs.declared.Filled.{Filled}
+use Rattle.exam_rules.specs.declared.Salvaged.{Salvaged}
 use Rattle.exam_rules.specs.declared.Trailer.{Trailer}
 use Rattle.exam_rules.specs.declared.Opened.{Opened}
 use Rattle.exam_rules.specs.declared.Opened.the-variants.{Done, Refused}
@@ -213,3 +215,26 @@ module _ (b : List ℕ) (l exam : ℕ) (records : List Record) (words fcm dfcm b
     pub fcmLeft : fcm' ≡ appendsAll .1 .fcm
     pub dfcmLeft : dfcm' ≡ appendsAll .1 .dfcm
     pub benchLeft : bench' ≡ appendsAll .1 .bench
+
+-- ---- salvage
+
+-- salvage answers the number and the new length; how many blocks were kept; how many of the old bytes were left over; and 1, since the slots are renumbered. Where it
+-- is refused, all but the number are 0
+unfoldable pub salvaged : ℕ → List ℕ → File → Salvaged
+salvaged k old f =
+    record {
+      number = k;
+      length = afterwards k (fileLength f) 0;
+      kept = afterwards k (length (f .entries)) 0;
+      «left_over» = afterwards k (length old - length (f .body)) 0;
+      renumbered = afterwards k 1 0;
+    }
+
+-- salvage(old, file, exam, t): a new file of the blocks that stand whole at the start of the old bytes
+module _ (old b : List ℕ) (exam t : ℕ) where
+  abbrev pub salvagesNumber : ℕ
+  salvagesNumber = salvageNumber exam t (fileLength (salvagedFile old exam t)) (length b)
+
+  pub record Salvages (r : Salvaged) (b' : List ℕ) : Type 0 where
+    pub answer : r ≡ salvaged salvagesNumber old (salvagedFile old exam t)
+    pub fileLeft : b' ≡ afterwards salvagesNumber (over (fileBytes (salvagedFile old exam t)) b) b

@@ -1,7 +1,8 @@
 pub mod File
 pub mod Reading
 pub mod Numbers
-pub mod Calls
 pub mod Pieces
+pub mod Salvage
+pub mod Calls
 pub mod Maps
 pub mod Inside

@@ -1,5 +1,5 @@
 -- The file of a list of maps: what create and then an append for each map make.
-use Prim.Native.Nat.{ℕ}
+use Prim.Native.Nat.{ℕ, _+_}
 use mathlib.Core.List.{List, [], _∷_, map}
 use mathlib.Core.Bool.{cond}
 use lib.Dec.{eqb}
@@ -33,3 +33,8 @@ fileBy choice exam t ms = fileOfPieces exam t (map (pieceBy choice t) ms)
 abbrev pub changed : ℕ → List ℕ → List Map → List Map
 changed slot words [] = []
 changed slot words (m ∷ ms) = cond (eqb (m .slot) slot) (record { slot = m .slot; words = words } ∷ ms) (m ∷ changed slot words ms)
+
+-- the renumbered list of maps: their slots are lost, and they get others, from a number up
+abbrev pub renumberedFrom : ℕ → List Map → List Map
+renumberedFrom slot [] = []
+renumberedFrom slot (m ∷ ms) = record { slot = slot; words = m .words } ∷ renumberedFrom (slot + 1) ms

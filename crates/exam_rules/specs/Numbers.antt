@@ -176,3 +176,12 @@ replaceNumber b l exam slot n f d bench =
     (findNumber b l exam slot
     ∷ storeNumber (fileIn (take l b) .t) n f d (l - entryOf slot (fileIn (take l b)) .size) (length b) bench
     ∷ [])
+
+-- salvage blocks into a new file of l bytes, in room for some bytes: 8, 7, 3
+unfoldable pub salvageNumber : ℕ → ℕ → ℕ → ℕ → ℕ
+salvageNumber exam t l room =
+    firstFailure
+    (unless (ltb 0 exam) 8
+    ∷ unless (leb t 16) 7
+    ∷ unless (leb l (min room mostBytes)) 3
+    ∷ [])

@@ -44,3 +44,13 @@ pub struct Filled {
     pub appended: usize,
     pub length: usize,
 }
+
+// What salvage answers: the number; the new file's length; how many blocks it kept and how many of the
+// old bytes it left over; and 1, since the slots are renumbered. All but the number are 0 at a refusal.
+pub struct Salvaged {
+    pub number: u32,
+    pub length: usize,
+    pub kept: usize,
+    pub left_over: usize,
+    pub renumbered: u32,
+}

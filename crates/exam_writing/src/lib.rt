@@ -66,7 +66,7 @@ pub fn create(file: &mut [u8], exam: u64, t: u32) -> Made
 }
 
 // Writes a directory entry of 12 bytes at a place.
-fn put_entry(out: &mut [u8], at: usize, slot: u32, offset: usize, size: usize)
+pub fn put_entry(out: &mut [u8], at: usize, slot: u32, offset: usize, size: usize)
     requires { ⌜ at + 12 ≤ length (now out) ⌝ }
     ensures { λ _. ⌜ now (out .exit) ≡ sets (now (out .entry)) at (entryBytes (entry slot offset size)) ⌝ }
 {

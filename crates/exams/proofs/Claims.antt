@@ -1,44 +1,51 @@
--- What is promised of create, open, find, locate, fetch, append, replace and append_all, each promise with one line of plain words.
+-- What is promised of create, open, find, locate, fetch, append, replace, append_all and salvage, each promise with one line of plain words.
 use mathlib.Core.Path.{_≡_, refl, sym, ap, _∙_}
+use mathlib.Core.Bool.{false}
 use mathlib.Core.Logic.{_↔_, _⊎_, inl, inr}
 use mathlib.Core.List.{List, [], _∷_, _++_, map, map-append, append-assoc, append-nil, List·Mem, mem-cast}
-use Prim.Native.Nat.{ℕ, _+_, _^_, _≤_, _<_}
+use Prim.Native.Nat.{ℕ, min, _+_, _-_, _*_, _/_, _^_, _≤_, _<_}
 use native.Mathlib.Numerals.{add-one}
 use native.Mathlib.Omega.{arith}
 use native.Mathlib.Nat.{zero-add}
 use lib.Dec.{leb, eqb}
 use lib.ListN.{length, getD, take, drop, length-map}
+use lib.Seq.{take-length}
 use borrow.Author.Tests.{leb-true, leb-false, eqb-true, eqb-false}
 use Rattle.words.specs.Words.{Words}
 use Rattle.words.specs.Bytes.{Bytes}
-use Rattle.words.proofs.Each.{Each, none, more, each-more, each-at}
+use Rattle.words.proofs.Each.{Each, none, more, each-more, each-at, each-take, each-get}
 use Rattle.words.proofs.Tests.{either}
 use Rattle.answers.specs.Answers.{afterwards, over}
 use Rattle.answers.proofs.Checks.{fails-here, afterwards-new, afterwards-old}
 use Rattle.block_rules.specs.Codes.{Choice, dfcmChosen, dfcmChosenByBytes, Thrifty}
-use Rattle.block_rules.specs.Block.{blockBy, block}
+use Rattle.block_rules.specs.Block.{blockBy, block, count, statedLength}
 use Rattle.block_rules.specs.Numbers.{blockNumber}
 use Rattle.block_rules.specs.declared.Unpacked.{Unpacked}
-use Rattle.exam_rules.specs.File.{entry, File, fileLength, fileBytes, appended, replaced}
+use Rattle.exam_rules.specs.File.{entry, File, fileLength, fileBytes, blockOf, empty, appended, replaced}
 use Rattle.exam_rules.specs.Reading.{tIn, examIn, distanceIn, entriesIn, lengthIn, fileIn, entryOf}
 use Rattle.exam_rules.specs.Numbers.{openInNumber, findNumber, blockIn, nextSlot}
-use Rattle.exam_rules.specs.Calls.{opened, openedNumber, openedT, openedEntries, openedStart, Finds, located, Fetches, Creates, appendsNumber, Appends, replacesNumber, Replaces, Lent, lent, wordsOf, filled, AppendsAll}
-use Rattle.exam_rules.specs.Maps.{Map, pieceOf, fileOf, pieceBy, fileBy, changed}
+use Rattle.exam_rules.specs.Calls.{opened, openedNumber, openedT, openedEntries, openedStart, Finds, located, Fetches, Creates, appendsNumber, Appends, replacesNumber, Replaces, Lent, lent, wordsOf, filled, AppendsAll, salvaged, salvagesNumber, Salvages}
+use Rattle.exam_rules.specs.Pieces.{fileOfPieces}
+use Rattle.exam_rules.specs.Salvage.{blockStands, wholeBlocks, numbered, salvagedFile}
+use Rattle.exam_rules.specs.Maps.{Map, pieceOf, fileOf, pieceBy, fileBy, changed, renumberedFrom}
 use Rattle.exam_rules.specs.declared.Located.{Located}
 use Rattle.exam_rules.specs.declared.Made.{Made}
 use Rattle.exam_rules.specs.declared.Record.{Record}
 use Rattle.exam_rules.specs.declared.Filled.{Filled}
+use Rattle.exam_rules.specs.declared.Salvaged.{Salvaged}
 use Rattle.exam_rules.specs.declared.Opened.{Opened}
 use Rattle.exam_rules.specs.declared.Opened.the-variants.{Done, Refused}
 use Rattle.block_rules.proofs.Accept.{where-nothing, where-one-answer, where-forgets}
 use Rattle.exam_rules.proofs.Opens.{opens-in, t-in, body-long, entries-many}
 use Rattle.exam_rules.proofs.Changes.{append-stopped, change-one-answer, changes-number, changes-none}
-use Rattle.exam_rules.proofs.Accept.{OpenTakes, open-takes, takes-open, FindTakes, find-takes, takes-find, FetchTakes, fetch-takes, takes-fetch, takes-create, AppendTakes, append-takes, takes-append, ReplaceTakes, replace-takes, takes-replace, opened-number, opened-done, fetches-number, CreateTakes, create-takes, AppendAllTakes, foretold, foretold-takes, takes-foretold}
-use Rattle.exam_rules.proofs.Answered.{open-in-one-of, find-one-of, fetch-one-of, create-one-of, append-one-of, append-all-one-of, replace-one-of}
+use Rattle.exam_rules.proofs.Accept.{OpenTakes, open-takes, takes-open, FindTakes, find-takes, takes-find, FetchTakes, fetch-takes, takes-fetch, takes-create, AppendTakes, append-takes, takes-append, ReplaceTakes, replace-takes, takes-replace, opened-number, opened-done, fetches-number, CreateTakes, create-takes, AppendAllTakes, foretold, foretold-takes, takes-foretold, SalvageTakes, salvage-takes, takes-salvage}
+use Rattle.exam_rules.proofs.Answered.{open-in-one-of, find-one-of, fetch-one-of, create-one-of, append-one-of, append-all-one-of, replace-one-of, salvage-one-of}
 use Rattle.exam_rules.proofs.Holds.{Holds, holds-length, holds-parts, holds-opens, copied-holds}
-use Rattle.exam_rules.proofs.Pieces.{created-pieces, appended-pieces, block-fetched, piece-handed, piece-fetched, pieces-tell}
-use Rattle.exam_rules.proofs.Maps.{Fit, reads-by, map-reads, maps-whole, maps-piece, alike-holds, changed-at, changed-maps, changed-fit}
-use Rattle.exam_rules.proofs.Cut.{never-all-whole}
+use Rattle.exam_rules.proofs.Pieces.{Wholes, created-pieces, appended-pieces, block-fetched, piece-found, piece-handed, piece-fetched, pieces-tell}
+use Rattle.exam_rules.proofs.Maps.{Fit, reads-by, map-reads, maps-whole, maps-piece, alike-holds, changed-at, changed-maps, changed-fit, renumbered-fit}
+use Rattle.exam_rules.proofs.Cut.{directory-states, directory-counts, never-all-whole}
+use Rattle.exam_rules.proofs.Salvage.{length-numbered, blocks-whole, salvaged-is, salvaged-many, salvaged-few, salvaged-within, salvaged-stop, salvaged-ends, salvaged-long, salvaged-most, salvage-number, salvage-kept, salvage-left-over, salvage-length, salvage-bytes, salvage-first, salvage-renumbers, salvage-beyond, salvage-holds, salvage-piece, salvage-slot, salvage-place, salvage-empty}
+use Rattle.exam_rules.proofs.Rescued.{directory-no-block, intact-blocks, intact-ends, cut-shorter, kept-most, cut-salvaged, those-within, those-kept}
 use Rattle.exam_rules.proofs.Kept.{found-long, found-size, found-within, found-part, more-holds, more-opens, slot-kept, slot-new}
 use Rattle.exam_rules.proofs.Filling.{words-of, record-numbered, record-refused, record-outside, append-to-record, record-to-append, each-none, each-one, all-opened}
 use Rattle.exam_rules.proofs.Forgets.{all-forgets}
@@ -92,6 +99,10 @@ pub append-all-one-answer : {b : List ℕ} {l exam : ℕ} {records : List Record
     → (a₁ ≡ a₂) × (b₁ ≡ b₂) × (f₁ ≡ f₂) × (d₁ ≡ d₂) × (n₁ ≡ n₂)
 append-all-one-answer p q =
     (p .answer ∙ sym (q .answer), p .fileLeft ∙ sym (q .fileLeft), p .fcmLeft ∙ sym (q .fcmLeft), p .dfcmLeft ∙ sym (q .dfcmLeft), p .benchLeft ∙ sym (q .benchLeft))
+
+-- Of salvage's answer and of the buffer, refused or not, the promise admits one value each.
+pub salvage-one-answer : {old b b₁ b₂ : List ℕ} {exam t : ℕ} {r₁ r₂ : Salvaged} → Salvages old b exam t r₁ b₁ → Salvages old b exam t r₂ b₂ → (r₁ ≡ r₂) × (b₁ ≡ b₂)
+salvage-one-answer p q = (p .answer ∙ sym (q .answer), p .fileLeft ∙ sym (q .fileLeft))
 
 -- ---- when each call answers 0
 
@@ -174,6 +185,11 @@ append-all-accepts {b} {l} {exam} {a = a} h w c =
       (λ k. ap number (append-all-answers h w (open-accepts b l exam .1 (k .opens)) c) ∙ takes-foretold _ _ _ _ _ _ 0 (k .takes)),
     )
 
+-- Salvage answers 0 just where the exam number is not 0, t is at most 16, and the new file fits the buffer and the limit.
+pub salvage-accepts : {old b b' : List ℕ} {exam t : ℕ} {r : Salvaged} → Salvages old b exam t r b' → (r .number ≡ 0) ↔ SalvageTakes exam t (fileLength (salvagedFile old exam t)) (length b)
+salvage-accepts {exam = exam} {t = t} c =
+    ((λ e. salvage-takes exam t _ _ (sym (salvage-number c) ∙ e)), (λ k. salvage-number c ∙ takes-salvage exam t _ _ k))
+
 -- ---- every number is one of the call's list
 
 -- Create answers 0, 8, 7 or 3.
@@ -212,6 +228,10 @@ replace-numbers c = mem-cast (changes-number (c .file)) (replace-one-of _ _ _ _ 
 pub append-all-numbers : {b : List ℕ} {l exam : ℕ} {records : List Record} {words fcm dfcm bench b' f' d' bench' : List ℕ} {a : Filled} → AppendsAll b l exam records words fcm dfcm bench a b' f' d' bench'
     → List·Mem (a .number) (0 ∷ 4 ∷ 7 ∷ 8 ∷ 9 ∷ 15 ∷ 12 ∷ 11 ∷ 1 ∷ 2 ∷ 3 ∷ [])
 append-all-numbers c = append-all-one-of c
+
+-- Salvage answers 0, 8, 7 or 3.
+pub salvage-numbers : {old b b' : List ℕ} {exam t : ℕ} {r : Salvaged} → Salvages old b exam t r b' → List·Mem (r .number) (0 ∷ 8 ∷ 7 ∷ 3 ∷ [])
+salvage-numbers c = mem-cast (salvage-number c) (salvage-one-of _ _ _ _)
 
 -- ---- a file opens only for its own exam number
 
@@ -278,26 +298,43 @@ append-all-forgets {b} {l} {exam} {records} {words} {f₁} {d₁} {f₂} {d₂} 
           (p .fcmLeft ∙ ap (λ (r : Lent). r .fcm) y ∙ sym (q .fcmLeft), p .dfcmLeft ∙ ap (λ (r : Lent). r .dfcm) y ∙ sym (q .dfcmLeft)),
     )
 
--- ---- files made by create, appends and replaces
+-- ---- files made by create, appends, replaces and salvage
 
 -- The first l bytes of the buffer b are a file that create made for an exam and a t, and then an append for each of the maps, none of them refused. Between
 -- two calls it may have been copied: to disk and back, say, into any buffer that begins with the same l bytes. And the words of a map may have been replaced,
--- which was not refused: then the list has the new ones. All its maps are packed by the rule's choice; of files packed before, see `MadeBefore`.
-pub data MadeOf (exam t : ℕ) : List Map → List ℕ → ℕ → Type 0 where
-  created : {b b' : List ℕ} {r : Made} → exam < 2 ^ 64 → Creates b exam t r b' → r .number ≡ 0 → MadeOf exam t [] b' (r .length)
-  grown : {ms : List Map} {b : List ℕ} {l slot : ℕ} {words fcm dfcm bench b' fcm' dfcm' bench' : List ℕ} {r : Made}
+-- which was not refused: then the list has the new ones. Or such a file was cut to its first k bytes, or not, and salvaged with its t, for any exam, which was not
+-- refused: then the list has the maps that were kept, renumbered. All its maps are packed by the rule's choice; of files packed before, see `MadeBefore`.
+pub data MadeOf : (exam t : ℕ) → List Map → List ℕ → ℕ → Type 0 where
+  created : {exam t : ℕ} {b b' : List ℕ} {r : Made} → exam < 2 ^ 64 → Creates b exam t r b' → r .number ≡ 0 → MadeOf exam t [] b' (r .length)
+  grown : {exam t : ℕ} {ms : List Map} {b : List ℕ} {l slot : ℕ} {words fcm dfcm bench b' fcm' dfcm' bench' : List ℕ} {r : Made}
       → MadeOf exam t ms b l → slot < 2 ^ 32 → Words words → Appends b l exam slot words fcm dfcm bench r b' fcm' dfcm' bench' → r .number ≡ 0
       → MadeOf exam t (ms ++ (record { slot = slot; words = words } ∷ [])) b' (r .length)
-  exchanged : {ms : List Map} {b : List ℕ} {l slot : ℕ} {words fcm dfcm bench b' fcm' dfcm' bench' : List ℕ} {r : Made}
+  exchanged : {exam t : ℕ} {ms : List Map} {b : List ℕ} {l slot : ℕ} {words fcm dfcm bench b' fcm' dfcm' bench' : List ℕ} {r : Made}
       → MadeOf exam t ms b l → Words words → Replaces b l exam slot words fcm dfcm bench r b' fcm' dfcm' bench' → r .number ≡ 0
       → MadeOf exam t (changed slot words ms) b' (r .length)
-  copied : {ms : List Map} {b c : List ℕ} {l : ℕ} → MadeOf exam t ms b l → take l c ≡ take l b → MadeOf exam t ms c l
+  copied : {exam t : ℕ} {ms : List Map} {b c : List ℕ} {l : ℕ} → MadeOf exam t ms b l → take l c ≡ take l b → MadeOf exam t ms c l
+  rescued : {exam t before : ℕ} {ms : List Map} {b file file' : List ℕ} {l : ℕ} {r : Salvaged}
+      → MadeOf before t ms b l → (k : ℕ) → exam < 2 ^ 64 → Salvages (take k (take l b)) file exam t r file' → r .number ≡ 0
+      → MadeOf exam t (renumberedFrom 0 (take (r .kept) ms)) file' (r .length)
+
+made-fit : {exam t : ℕ} {ms : List Map} {b : List ℕ} {l : ℕ} → MadeOf exam t ms b l → Each Fit ms
+made-fit (created w c e) = none
+made-fit (grown h s w c e) = each-more (made-fit h) (record { few = append-accepts c .0 e .fewWords; wide = w })
+made-fit (exchanged h w c e) = changed-fit _ _ (replace-accepts c .0 e .fewWords) w (made-fit h)
+made-fit (copied h e) = made-fit h
+made-fit (rescued {r = r} h k w c e) = renumbered-fit 0 (each-take (r .kept) (made-fit h))
+
+-- its blocks are whole
+made-wholes : {exam t : ℕ} {ms : List Map} {b : List ℕ} {l : ℕ} → MadeOf exam t ms b l → Wholes (map (pieceOf t) ms)
+unfolding block
+made-wholes {t = t} m = maps-whole (λ x. dfcmChosen) t (made-fit m)
 
 made-holds : {exam t : ℕ} {ms : List Map} {b : List ℕ} {l : ℕ} → MadeOf exam t ms b l → Holds b l (fileOf exam t ms)
 made-holds (created w c e) = created-pieces w c e
 made-holds {exam} {t} (grown {ms = ms} h s w c e) = rw map-append (appended-pieces exam t (map (pieceOf t) ms) (made-holds h) s c e)
 made-holds {exam} {t} (exchanged {ms = ms} h w c e) = changed-maps exam t ms (made-holds h) c e
 made-holds (copied h e) = copied-holds (made-holds h) e
+made-holds {t = t} (rescued {before = before} {ms = ms} h k w c e) = cut-salvaged before t ms (made-holds h) (made-wholes h) k w c e
 
 -- Such a file is the bytes of its parts: the blocks of the maps in order, an entry for each, the trailer.
 pub made-is-its-parts : {exam t : ℕ} {ms : List Map} {b : List ℕ} {l : ℕ} → MadeOf exam t ms b l → (take l b ≡ fileBytes (fileOf exam t ms)) × (l ≡ fileLength (fileOf exam t ms))
@@ -319,12 +356,6 @@ pub made-tells : {exam t : ℕ} {ms : List Map} {b : List ℕ} {l : ℕ} → Mad
 made-tells {exam} {t} {ms} m =
     let told = pieces-tell exam t (map (pieceOf t) ms) (made-holds m) in
     (told .0, told .1 ∙ length-map ms (pieceOf t))
-
-made-fit : {exam t : ℕ} {ms : List Map} {b : List ℕ} {l : ℕ} → MadeOf exam t ms b l → Each Fit ms
-made-fit (created w c e) = none
-made-fit (grown h s w c e) = each-more (made-fit h) (record { few = append-accepts c .0 e .fewWords; wide = w })
-made-fit (exchanged h w c e) = changed-fit _ _ (replace-accepts c .0 e .fewWords) w (made-fit h)
-made-fit (copied h e) = made-fit h
 
 -- Finding a slot of such a file hands back the block of the words that its list has for the slot: those that were put there last.
 pub made-finds : (first : List Map) (m : Map) (rest : List Map) {exam t : ℕ} {b : List ℕ} {l : ℕ} {part : List ℕ} {number : ℕ}
@@ -384,6 +415,9 @@ pub record MadeBefore (exam t : ℕ) (ms : List Map) (b : List ℕ) (l : ℕ) : 
 earlier-holds : {exam t : ℕ} {ms : List Map} {b : List ℕ} {l : ℕ} (k : MadeBefore exam t ms b l) → Holds b l (fileBy (k .choice) exam t ms)
 earlier-holds {exam} {t} {ms} k = alike-holds (k .choice) (k .thrifty) t exam ms (made-holds (k .made)) (k .bytes)
 
+earlier-wholes : {exam t : ℕ} {ms : List Map} {b : List ℕ} {l : ℕ} (k : MadeBefore exam t ms b l) → Wholes (map (pieceBy (k .choice) t) ms)
+earlier-wholes {t = t} k = maps-whole (k .choice) t (made-fit (k .made))
+
 -- Such a file opens for its exam number.
 pub earlier-opens : {exam t : ℕ} {ms : List Map} {b : List ℕ} {l : ℕ} → MadeBefore exam t ms b l → openedNumber (opened b l exam) ≡ 0
 earlier-opens {exam} {b = b} {l} k = opened-number b l exam ∙ holds-opens (earlier-holds k)
@@ -412,7 +446,7 @@ earlier-fetches first m rest {exam} {t} k c lf ld enough =
 pub earlier-cut-is-never-whole : {exam t : ℕ} {ms : List Map} {b : List ℕ} {l : ℕ} → MadeBefore exam t ms b l → (k : ℕ) → k < l → (c : List ℕ) → take k c ≡ take k b
     → (asked : ℕ) → openedNumber (opened c k asked) ≡ 0 → ((slot : ℕ) → findNumber c k asked slot ≡ 0 → blockNumber (blockIn c k slot) ≡ 0) → ⊥
 earlier-cut-is-never-whole {exam} {t} {ms} m k short c same asked e w =
-    never-all-whole exam t (map (pieceBy (m .choice) t) ms) (earlier-holds m) (maps-whole (m .choice) t (made-fit (m .made))) k asked short c same (sym (opened-number c k asked) ∙ e) w
+    never-all-whole exam t (map (pieceBy (m .choice) t) ms) (earlier-holds m) (earlier-wholes m) k asked short c same (sym (opened-number c k asked) ∙ e) w
 
 -- ---- a refusal leaves everything as it was
 
@@ -434,6 +468,10 @@ pub found-is-long : {b : List ℕ} {l exam slot : ℕ} {part : List ℕ} {number
 found-is-long {b} {l} {exam} {slot} c e =
     let z = sym (c .numberLeft) ∙ e in
     rw (c .answer ∙ afterwards-new _ _ [] z) (found-long b l exam slot z)
+
+locates : (b : List ℕ) (l exam slot : ℕ) → findNumber b l exam slot ≡ 0 → located b l exam slot .number ≡ 0
+unfolding located
+locates b l exam slot z = z
 
 -- Where locate answers 0, offset and size are those of the slot's entry.
 pub located-entry : (b : List ℕ) (l exam slot : ℕ) → located b l exam slot .number ≡ 0
@@ -502,6 +540,19 @@ refused-replace-changes-nothing {b} {l} {exam} {slot} {words} {fcm} {dfcm} {benc
 pub refused-append-all-changes-nothing : {b : List ℕ} {l exam : ℕ} {records : List Record} {words fcm dfcm bench b' f' d' bench' : List ℕ} {a : Filled} → AppendsAll b l exam records words fcm dfcm bench a b' f' d' bench'
     → (a .number ≡ 0 → ⊥) → a .appended ≡ 0 → (a .length ≡ 0) × (b' ≡ b) × (f' ≡ fcm) × (d' ≡ dfcm) × (bench' ≡ bench)
 refused-append-all-changes-nothing c h z = all-none c h z
+
+-- A refused salvage changes nothing, and answers 0 for the length, for what was kept, for what was left over and for the renumbering.
+pub refused-salvage-changes-nothing : {old b b' : List ℕ} {exam t : ℕ} {r : Salvaged} → Salvages old b exam t r b' → (r .number ≡ 0 → ⊥)
+    → (r .length ≡ 0) × (r .kept ≡ 0) × (r .«left_over» ≡ 0) × (r .renumbered ≡ 0) × (b' ≡ b)
+unfolding salvaged
+refused-salvage-changes-nothing {old} {b} {exam = exam} {t = t} c h =
+    let k : salvagesNumber old b exam t ≡ 0 → ⊥ = λ z. h (salvage-number c ∙ z) in (
+      ap (λ (x : Salvaged). x .length) (c .answer) ∙ afterwards-old _ _ 0 k,
+      ap (λ (x : Salvaged). x .kept) (c .answer) ∙ afterwards-old _ _ 0 k,
+      ap (λ (x : Salvaged). x .«left_over») (c .answer) ∙ afterwards-old _ _ 0 k,
+      ap (λ (x : Salvaged). x .renumbered) (c .answer) ∙ afterwards-old _ _ 0 k,
+      c .fileLeft ∙ afterwards-old _ _ b k,
+    )
 
 -- ---- an append keeps what was there
 
@@ -680,7 +731,7 @@ made-of-all {ms = ms} m w v (refused h c u) = rw (append-nil ms, refused-append-
 made-of-all {exam} {t} {ms} {words} m (more w ws) v (went-in {r = r} {rs = rs} {k = k} h c z g) =
     rw (add-one k, ← (append-assoc ms (mapOf words r ∷ []) (map (mapOf words) (take k rs)))) (made-of-all (grown m w (words-of r words v) c z) ws v g)
 
--- A file made by create, appends and replaces, where append_all answers 0 or a map went in, is made of its maps and then one for each record that went in. So
+-- A file that these calls made, where append_all answers 0 or a map went in, is made of its maps and then one for each record that went in. So
 -- `made-fetches` speaks of each of them.
 pub made-append-all : {exam t : ℕ} {ms : List Map} {b : List ℕ} {l : ℕ} {records : List Record} {words fcm dfcm bench b' f' d' bench' : List ℕ} {a : Filled} → MadeOf exam t ms b l → SlotsFit records
     → Words words → AppendsAll b l exam records words fcm dfcm bench a b' f' d' bench' → (a .number ≡ 0) ⊎ (0 < a .appended)
@@ -775,10 +826,219 @@ pub fetched-is-whole : {b : List ℕ} {l exam slot : ℕ} {fcm dfcm words f' d' 
     → blockNumber (blockIn b l slot) ≡ 0
 fetched-is-whole c e = fetch-accepts c .0 e .whole
 
--- Cut a file made by create, appends and replaces anywhere, and let a buffer begin with what is left. Whatever number is asked, where it opens the blocks of its slots
+-- Cut a file made by these calls anywhere, and let a buffer begin with what is left. Whatever number is asked, where it opens the blocks of its slots
 -- are never all whole; and fetch unpacks none that is not whole.
 pub cut-is-never-whole : {exam t : ℕ} {ms : List Map} {b : List ℕ} {l : ℕ} → MadeOf exam t ms b l → (k : ℕ) → k < l → (c : List ℕ) → take k c ≡ take k b
     → (asked : ℕ) → openedNumber (opened c k asked) ≡ 0 → ((slot : ℕ) → findNumber c k asked slot ≡ 0 → blockNumber (blockIn c k slot) ≡ 0) → ⊥
-unfolding block
 cut-is-never-whole {exam} {t} {ms} m k short c same asked e w =
-    never-all-whole exam t (map (pieceOf t) ms) (made-holds m) (maps-whole (λ x. dfcmChosen) t (made-fit m)) k asked short c same (sym (opened-number c k asked) ∙ e) w
+    never-all-whole exam t (map (pieceOf t) ms) (made-holds m) (made-wholes m) k asked short c same (sym (opened-number c k asked) ∙ e) w
+
+-- ---- what salvage makes of any bytes
+
+-- Where it is not refused, its file opens for the exam given, with the t given and as many entries as blocks were kept.
+pub salvage-opens : {old b b' : List ℕ} {exam t : ℕ} {r : Salvaged} → exam < 2 ^ 64 → Salvages old b exam t r b' → r .number ≡ 0
+    → (openedNumber (opened b' (r .length) exam) ≡ 0) × (openedT (opened b' (r .length) exam) ≡ t) × (openedEntries (opened b' (r .length) exam) ≡ r .kept)
+salvage-opens {old} {b' = b'} {exam = exam} {t = t} {r = r} w c e =
+    let h = rw (salvaged-is old exam t) at (salvage-holds c e w) in
+    let told = pieces-tell exam t (numbered 0 (wholeBlocks 1024 old)) h in
+    (opened-number b' (r .length) exam ∙ holds-opens h, told .0, told .1 ∙ length-numbered 0 (wholeBlocks 1024 old) ∙ sym (salvage-kept c e))
+
+-- It is the bytes of the file of the blocks that stand whole at the start of the old bytes, with slots from 0 up. Its edition is 1.
+pub salvage-is-its-bytes : {old b b' : List ℕ} {exam t : ℕ} {r : Salvaged} → Salvages old b exam t r b' → r .number ≡ 0
+    → take (r .length) b' ≡ fileBytes (fileOfPieces exam t (numbered 0 (wholeBlocks 1024 old)))
+salvage-is-its-bytes {old} {exam = exam} {t = t} c e = salvage-bytes c e ∙ ap fileBytes (salvaged-is old exam t)
+
+-- So these are the parts that are read of it.
+pub salvage-is-its-parts : {old b b' : List ℕ} {exam t : ℕ} {r : Salvaged} → exam < 2 ^ 64 → Salvages old b exam t r b' → r .number ≡ 0
+    → fileIn (take (r .length) b') ≡ fileOfPieces exam t (numbered 0 (wholeBlocks 1024 old))
+salvage-is-its-parts {old} {exam = exam} {t = t} w c e = holds-parts (salvage-holds c e w) ∙ salvaged-is old exam t
+
+-- Each old byte is kept or left over: the blocks kept are the first of them, unchanged, and stand at the new file's start.
+pub salvage-keeps-bytes : {old b b' : List ℕ} {exam t : ℕ} {r : Salvaged} → Salvages old b exam t r b' → r .number ≡ 0
+    → (r .«left_over» ≤ length old) × (take (length old - r .«left_over») b' ≡ take (length old - r .«left_over») old)
+salvage-keeps-bytes {old} {exam = exam} {t = t} {r = r} c e =
+    let kept : length old - r .«left_over» ≡ length (salvagedFile old exam t .body) = omega (arith, salvage-left-over c e, salvaged-within old exam t) in
+    (omega (arith, salvage-left-over c e), rw kept (salvage-first c e))
+
+-- The new file is those bytes, 12 for each block kept, and 32. At most 1,024 blocks are kept, each has at least 8 bytes, and the answer says that slots are renumbered.
+pub salvage-counts : {old b b' : List ℕ} {exam t : ℕ} {r : Salvaged} → Salvages old b exam t r b' → r .number ≡ 0
+    → (r .length + r .«left_over» ≡ length old + 12 * r .kept + 32) × (r .kept ≤ 1024) × (8 * r .kept + r .«left_over» ≤ length old) × (r .renumbered ≡ 1)
+salvage-counts {old} {exam = exam} {t = t} c e =
+    let many = salvage-kept c e ∙ sym (salvaged-many old exam t) in
+    let left = salvage-left-over c e in
+    let within = salvaged-within old exam t in (
+      omega (arith, salvage-length c e, many, left, within),
+      omega (arith, many, salvaged-few old exam t),
+      omega (arith, many, left, within, salvaged-long old exam t),
+      salvage-renumbers c e,
+    )
+
+-- It stops only where no well-formed block stands, or where 1,024 were kept: a refused block is not passed by.
+pub salvage-stops : {old b b' : List ℕ} {exam t : ℕ} {r : Salvaged} → Salvages old b exam t r b' → r .number ≡ 0
+    → (r .kept ≡ 1024) ⊎ (blockStands (drop (length old - r .«left_over») old) ≡ false)
+salvage-stops {old} {exam = exam} {t = t} {r = r} c e =
+    let kept : length old - r .«left_over» ≡ length (salvagedFile old exam t .body) = omega (arith, salvage-left-over c e, salvaged-within old exam t) in
+    rw (kept, salvage-kept c e ∙ sym (salvaged-many old exam t)) (salvaged-stop old exam t)
+
+-- Its slots are 0, 1, 2 and so on, as many as blocks were kept, and no other.
+pub salvage-slots : {old b b' : List ℕ} {exam t : ℕ} {r : Salvaged} → exam < 2 ^ 64 → Salvages old b exam t r b' → r .number ≡ 0
+    → (s : ℕ) → (findNumber b' (r .length) exam s ≡ 0) ↔ (s < r .kept)
+salvage-slots w c e s =
+    let many = salvage-kept c e in
+    ((λ z. rw many (salvage-slot c e w s z)), (λ h. piece-found (salvage-piece c e w s (rw many at h))))
+
+-- Finding a slot of it hands back the block that stood at the slot's place in the old bytes: it is whole, and its bytes are unchanged.
+pub salvage-finds : {old b b' : List ℕ} {exam t s number : ℕ} {part : List ℕ} {r : Salvaged} → exam < 2 ^ 64 → Salvages old b exam t r b' → r .number ≡ 0 → s < r .kept
+    → Finds b' (r .length) exam s part number → (number ≡ 0) × (part ≡ getD (wholeBlocks 1024 old) s []) × (blockNumber part ≡ 0)
+salvage-finds {old} {s = s} w c e h q =
+    let i = rw (salvage-kept c e) at h in
+    let x = piece-handed (salvage-piece c e w s i) q in
+    (x .0, x .1, rw (x .1) (each-get s [] (blocks-whole 1024 old) i))
+
+-- The block of a slot stands where it stood in the old bytes: at the same place, before those that are left over, and with the same bytes.
+pub salvage-places : {old b b' : List ℕ} {exam t : ℕ} {r : Salvaged} → exam < 2 ^ 64 → Salvages old b exam t r b' → r .number ≡ 0 → (s : ℕ) → s < r .kept
+    → (located b' (r .length) exam s .offset + located b' (r .length) exam s .size ≤ length old - r .«left_over»)
+    × (blockIn b' (r .length) s ≡ take (located b' (r .length) exam s .size) (drop (located b' (r .length) exam s .offset) old))
+salvage-places {old} {b' = b'} {exam = exam} {t = t} {r = r} w c e s h =
+    let i = rw (salvage-kept c e) at h in
+    let z = piece-found (salvage-piece c e w s i) in
+    let x = located-entry b' (r .length) exam s (locates b' (r .length) exam s z) in
+    let kept : length old - r .«left_over» ≡ length (salvagedFile old exam t .body) = omega (arith, salvage-left-over c e, salvaged-within old exam t) in
+    rw (x .0, x .1, kept) (salvage-place c e w s i)
+
+-- Where nothing is kept it makes the empty file, as create does.
+pub salvage-of-nothing : {old b b' : List ℕ} {exam t : ℕ} {r : Salvaged} → Salvages old b exam t r b' → r .number ≡ 0 → r .kept ≡ 0
+    → (r .length ≡ 32) × (take 32 b' ≡ fileBytes (empty exam t)) × (r .«left_over» ≡ length old)
+salvage-of-nothing c e z = salvage-empty c e z
+
+-- Beyond the new file the buffer is as it was.
+pub salvage-leaves-the-rest : {old b b' : List ℕ} {exam t : ℕ} {r : Salvaged} → Salvages old b exam t r b' → r .number ≡ 0 → (i d : ℕ) → r .length ≤ i → getD b' i d ≡ getD b i d
+salvage-leaves-the-rest c e i d h = salvage-beyond c e i d h
+
+-- A buffer with room for the old bytes, 12 bytes for each block that they can hold, and 32 is always enough, and so is one of 16,777,216 bytes: then it is refused
+-- for room only where the new file is over the limit.
+pub salvage-room : {old b b' : List ℕ} {exam t : ℕ} {r : Salvaged} → Salvages old b exam t r b' → 0 < exam → t ≤ 16
+    → min (length old + 12 * min 1024 (length old / 8) + 32) 16777216 ≤ length b → fileLength (salvagedFile old exam t) ≤ 16777216 → r .number ≡ 0
+salvage-room {old} {exam = exam} {t = t} c named most room small =
+    let l = salvaged-most old exam t in
+    salvage-accepts c .1 (record { named = named; most = most; bufferRoom = omega (arith, l, room, small); fileRoom = small })
+
+-- ---- what salvage makes of a file
+
+-- No block stands where the directory of a file that opens starts. Where it has entries, a block's length would be read from its first offset: that is 0.
+pub directory-states-no-length : (b : List ℕ) (l exam : ℕ) → openedNumber (opened b l exam) ≡ 0 → 0 < openedEntries (opened b l exam)
+    → statedLength (drop (openedStart (opened b l exam)) b) ≡ 0
+directory-states-no-length b l exam e h =
+    let z = sym (opened-number b l exam) ∙ e in
+    let d = opened-done b l exam z in
+    let n = ap openedEntries d ∙ entries-many (take l b) in
+    rw (ap openedStart d ∙ body-long (take l b)) (directory-states b l exam z (openedEntries (opened b l exam) - 1) (sym n ∙ omega arith))
+
+-- Where it has none, a block's count would be read from the mark: that is 1,818,849,123, over the limit of 65,536.
+pub mark-counts-too-many : (b : List ℕ) (l exam : ℕ) → openedNumber (opened b l exam) ≡ 0 → openedEntries (opened b l exam) ≡ 0
+    → (openedStart (opened b l exam) ≡ 0) × (count b ≡ 1818849123)
+mark-counts-too-many b l exam e h =
+    let z = sym (opened-number b l exam) ∙ e in
+    let d = opened-done b l exam z in
+    let y = directory-counts b l exam z (sym (ap openedEntries d ∙ entries-many (take l b)) ∙ h) in
+    (ap openedStart d ∙ body-long (take l b) ∙ y .0, y .1)
+
+-- So no block stands there, even where the file is cut behind it.
+pub directory-is-no-block : (b : List ℕ) (l exam : ℕ) → openedNumber (opened b l exam) ≡ 0 → (k : ℕ) → blockStands (take k (drop (openedStart (opened b l exam)) b)) ≡ false
+directory-is-no-block b l exam e k =
+    let z = sym (opened-number b l exam) ∙ e in
+    rw (ap openedStart (opened-done b l exam z) ∙ body-long (take l b)) (directory-no-block b l exam z k)
+
+-- Of every file that opens and whose blocks are whole, salvage keeps all blocks, in their order. Left over are the directory and the trailer, 12 bytes for each
+-- entry and 32, and what stands in the buffer behind the file.
+pub salvage-keeps-all : (b : List ℕ) (l exam : ℕ) {file file' : List ℕ} {other t : ℕ} {r : Salvaged} → openedNumber (opened b l exam) ≡ 0
+    → ((slot : ℕ) → findNumber b l exam slot ≡ 0 → blockNumber (blockIn b l slot) ≡ 0) → Salvages b file other t r file' → r .number ≡ 0
+    → (wholeBlocks 1024 b ≡ map (blockOf (fileIn (take l b))) (fileIn (take l b) .entries)) × (r .kept ≡ openedEntries (opened b l exam))
+    × (r .«left_over» ≡ 12 * openedEntries (opened b l exam) + 32 + (length b - l))
+salvage-keeps-all b l exam {other = other} {t = t} e w c z =
+    let o = sym (opened-number b l exam) ∙ e in
+    let d = opened-done b l exam o in
+    let blocks = intact-blocks b l exam o w in
+    let told = open-answers b l exam e in
+    let n = ap openedEntries d in
+    let s = ap openedStart d ∙ body-long (take l b) in
+    let k = open-takes b l exam o in (
+      blocks,
+      salvage-kept c z ∙ ap length blocks ∙ length-map (fileIn (take l b) .entries) _ ∙ sym n,
+      omega (arith, salvage-left-over c z, salvaged-ends b other t, intact-ends b l exam o w, s, told .1, told .2, k .distance, k .within),
+    )
+
+-- So of such a file alone, with nothing behind it, it keeps all blocks, and 12 times the entries plus 32 bytes are left over.
+pub salvage-of-intact : (f : List ℕ) (exam : ℕ) {file file' : List ℕ} {other t : ℕ} {r : Salvaged} → openedNumber (opened f (length f) exam) ≡ 0
+    → ((slot : ℕ) → findNumber f (length f) exam slot ≡ 0 → blockNumber (blockIn f (length f) slot) ≡ 0) → Salvages f file other t r file' → r .number ≡ 0
+    → (wholeBlocks 1024 f ≡ map (blockOf (fileIn f)) (fileIn f .entries)) × (r .kept ≡ openedEntries (opened f (length f) exam))
+    × (r .«left_over» ≡ 12 * openedEntries (opened f (length f) exam) + 32)
+salvage-of-intact f exam e w c z =
+    let a = salvage-keeps-all f (length f) exam e w c z in
+    (a .0 ∙ ap (λ (x : List ℕ). map (blockOf (fileIn x)) (fileIn x .entries)) (take-length f), a .1, omega (arith, a .2))
+
+-- ---- what salvage makes of a made file that was cut
+
+-- Cut a file made by these calls to its first k bytes, and salvage what is left. A map is kept just where its block ends within the cut. (The map has as many maps
+-- before it as the list `first` has, and `located` tells where its block stands in the file before the cut.)
+pub salvage-keeps-those-within : (first : List Map) (m : Map) (rest : List Map) {exam t : ℕ} {b : List ℕ} {l : ℕ} → MadeOf exam t (first ++ m ∷ rest) b l
+    → (k : ℕ) {other u : ℕ} {file file' : List ℕ} {r : Salvaged} → Salvages (take k (take l b)) file other u r file' → r .number ≡ 0
+    → (length first < r .kept) ↔ (located b l exam (m .slot) .offset + located b l exam (m .slot) .size ≤ k)
+salvage-keeps-those-within first m rest {exam} {t} h k c e = those-within (pieceOf t) exam t first m rest (made-holds h) (made-wholes h) k c e
+
+-- And no more blocks are kept than there are maps.
+pub salvage-keeps-no-more : {exam t : ℕ} {ms : List Map} {b : List ℕ} {l : ℕ} → MadeOf exam t ms b l → (k : ℕ) {other u : ℕ} {file file' : List ℕ} {r : Salvaged}
+    → Salvages (take k (take l b)) file other u r file' → r .number ≡ 0 → r .kept ≤ length ms
+salvage-keeps-no-more {exam} {t} {ms} h k c e = omega (arith, kept-most exam t (map (pieceOf t) ms) (made-holds h) (made-wholes h) k c e, length-map ms (pieceOf t))
+
+-- Fetching it from the new file, with the t of the old one and tables of 2 ^ t words, gives back exactly its words. Its slot is the number of the maps before it.
+pub salvage-fetches : (first : List Map) (m : Map) (rest : List Map) {exam t : ℕ} {b : List ℕ} {l : ℕ} → MadeOf exam t (first ++ m ∷ rest) b l
+    → (k : ℕ) {other : ℕ} {file file' : List ℕ} {r : Salvaged} → other < 2 ^ 64 → Salvages (take k (take l b)) file other t r file' → r .number ≡ 0 → length first < r .kept
+    → {fcm dfcm room fcm' dfcm' room' : List ℕ} {s : Unpacked} → Fetches file' (r .length) other (length first) fcm dfcm room s fcm' dfcm' room'
+    → length fcm ≡ 2 ^ t → length dfcm ≡ 2 ^ t → length (m .words) ≤ length room → (s ≡ record { number = 0; count = length (m .words) }) × (room' ≡ over (m .words) room)
+salvage-fetches first m rest {exam} {t} h k w c e within q lf ld enough =
+    piece-fetched (those-kept (pieceOf t) exam t first m rest (made-holds h) (made-wholes h) k c e w within) (map-reads t m (each-at first m rest (made-fit h))) q lf ld enough
+
+-- The new file is one made by these calls, of the maps that were kept, renumbered. So all that is promised of those holds of it: it can be appended to, replaced in,
+-- cut and salvaged again.
+pub salvage-makes : {exam t : ℕ} {ms : List Map} {b : List ℕ} {l : ℕ} → MadeOf exam t ms b l → (k : ℕ) {other : ℕ} {file file' : List ℕ} {r : Salvaged} → other < 2 ^ 64
+    → Salvages (take k (take l b)) file other t r file' → r .number ≡ 0 → MadeOf other t (renumberedFrom 0 (take (r .kept) ms)) file' (r .length)
+salvage-makes h k w c e = rescued h k w c e
+
+-- a file no longer than one that a buffer holds fits a buffer as long, and the limit
+shorter-fits : {b : List ℕ} {l n exam t room : ℕ} {f : File} → Holds b l f → n ≤ l → 0 < exam → t ≤ 16 → l ≤ room → SalvageTakes exam t n room
+shorter-fits h short named most enough =
+    record { named = named; most = most; bufferRoom = omega (arith, short, enough); fileRoom = omega (arith, short, holds-length h, h .good .size) }
+
+-- A buffer as long as the file was before the cut is enough.
+pub salvage-fits : {exam t : ℕ} {ms : List Map} {b : List ℕ} {l : ℕ} → MadeOf exam t ms b l → (k : ℕ) {other u : ℕ} {file file' : List ℕ} {r : Salvaged}
+    → Salvages (take k (take l b)) file other u r file' → 0 < other → u ≤ 16 → l ≤ length file → r .number ≡ 0
+salvage-fits {exam} {t} {ms} h k {other} {u} c named most room =
+    salvage-accepts c .1 (shorter-fits (made-holds h) (cut-shorter exam t (map (pieceOf t) ms) (made-holds h) (made-wholes h) k other u) named most room)
+
+-- The same of a file with maps that were packed before request L2: a map is kept just where its block ends within the cut,
+pub earlier-salvage-keeps : (first : List Map) (m : Map) (rest : List Map) {exam t : ℕ} {b : List ℕ} {l : ℕ} → MadeBefore exam t (first ++ m ∷ rest) b l
+    → (k : ℕ) {other u : ℕ} {file file' : List ℕ} {r : Salvaged} → Salvages (take k (take l b)) file other u r file' → r .number ≡ 0
+    → (length first < r .kept) ↔ (located b l exam (m .slot) .offset + located b l exam (m .slot) .size ≤ k)
+earlier-salvage-keeps first m rest {exam} {t} h k c e = those-within (pieceBy (h .choice) t) exam t first m rest (earlier-holds h) (earlier-wholes h) k c e
+
+-- no more blocks are kept than there are maps,
+pub earlier-salvage-keeps-no-more : {exam t : ℕ} {ms : List Map} {b : List ℕ} {l : ℕ} → MadeBefore exam t ms b l → (k : ℕ) {other u : ℕ} {file file' : List ℕ} {r : Salvaged}
+    → Salvages (take k (take l b)) file other u r file' → r .number ≡ 0 → r .kept ≤ length ms
+earlier-salvage-keeps-no-more {exam} {t} {ms} h k c e =
+    omega (arith, kept-most exam t (map (pieceBy (h .choice) t) ms) (earlier-holds h) (earlier-wholes h) k c e, length-map ms (pieceBy (h .choice) t))
+
+-- a buffer as long as the file was is enough,
+pub earlier-salvage-fits : {exam t : ℕ} {ms : List Map} {b : List ℕ} {l : ℕ} → MadeBefore exam t ms b l → (k : ℕ) {other u : ℕ} {file file' : List ℕ} {r : Salvaged}
+    → Salvages (take k (take l b)) file other u r file' → 0 < other → u ≤ 16 → l ≤ length file → r .number ≡ 0
+earlier-salvage-fits {exam} {t} {ms} h k {other} {u} c named most room =
+    salvage-accepts c .1 (shorter-fits (earlier-holds h) (cut-shorter exam t (map (pieceBy (h .choice) t) ms) (earlier-holds h) (earlier-wholes h) k other u) named most room)
+
+-- and a map that is kept is fetched, word for word.
+pub earlier-salvage-fetches : (first : List Map) (m : Map) (rest : List Map) {exam t : ℕ} {b : List ℕ} {l : ℕ} → MadeBefore exam t (first ++ m ∷ rest) b l
+    → (k : ℕ) {other : ℕ} {file file' : List ℕ} {r : Salvaged} → other < 2 ^ 64 → Salvages (take k (take l b)) file other t r file' → r .number ≡ 0 → length first < r .kept
+    → {fcm dfcm room fcm' dfcm' room' : List ℕ} {s : Unpacked} → Fetches file' (r .length) other (length first) fcm dfcm room s fcm' dfcm' room'
+    → length fcm ≡ 2 ^ t → length dfcm ≡ 2 ^ t → length (m .words) ≤ length room → (s ≡ record { number = 0; count = length (m .words) }) × (room' ≡ over (m .words) room)
+earlier-salvage-fetches first m rest {exam} {t} h k w c e within q lf ld enough =
+    piece-fetched (those-kept (pieceBy (h .choice) t) exam t first m rest (earlier-holds h) (earlier-wholes h) k c e w within)
+    (reads-by (h .choice m) t m (each-at first m rest (made-fit (h .made)))) q lf ld enough

@@ -1,6 +1,7 @@
 // One file for each exam: creates it, opens it for its own exam number, finds a slot, fetches a
-// slot's words, appends a slot, or many, replaces a slot's words. This crate has no function: the calls
-// are those of the crates below, named together, and what is promised of them is in proofs/.
+// slot's words, appends a slot, or many, replaces a slot's words, salvages a file without its end. This
+// crate has no function: the calls are those of the crates below, named together, and what is promised
+// of them is in proofs/.
 pub use exam_appending::append;
 pub use exam_fetching::fetch;
 pub use exam_filling::append_all;
@@ -14,5 +15,7 @@ pub use exam_rules::Located;
 pub use exam_rules::Made;
 pub use exam_rules::Opened;
 pub use exam_rules::Record;
+pub use exam_rules::Salvaged;
 pub use exam_rules::Trailer;
+pub use exam_salvaging::salvage;
 pub use exam_writing::create;
