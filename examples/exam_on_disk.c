@@ -71,8 +71,9 @@ static const char *what_to_do(uint32_t number)
                "to create or salvage: t above 16";
     case COIL_BAD_BLOCK_LENGTH:
     case COIL_BAD_FILLER:
-    case COIL_BAD_DIRECTORY:
         return "the file is damaged: take the copy";
+    case COIL_BAD_DIRECTORY:
+        return "the file is damaged: take the copy, or see docs/CUT_FILES.md";
     case COIL_WRONG_EXAM:
         return "not this exam's file, or damaged: do not use it; look up the exam number, which is never 0";
     case COIL_NO_SUCH_SLOT:

@@ -49,9 +49,10 @@
  *
  * A FILE THAT THESE CALLS MADE
  *
- * So is called below a file that coil_create made, and then coil_append, coil_append_all and coil_replace, none of them
- * refused; or one that coil_salvage made of such a file, whole or cut short, with the t that it was made with. It may
- * have been copied, to disk and back, say, as long as no byte was changed.
+ * So is called below a file that coil_create made, or that coil_salvage made of such a file, whole or cut short, with
+ * the t that it was made with; and then any coil_append, coil_append_all and coil_replace. A refused call changes
+ * nothing of this; of a list that was refused, what went in counts. The file may have been copied, to disk and back,
+ * say, as long as no byte was changed.
  *
  * TABLES
  *
@@ -74,7 +75,7 @@
  *   A file that these calls made and that was cut short hardly ever opens, but it may: where what is left
  *   happens to end like a file. Then coil_fetch refuses at least one of its slots. Of a file that
  *   another program made, a first part may open with nothing refused. A block that was cut short is always
- *   refused. docs/CUT_FILES.md has the details. coil_salvage gives back the maps whose blocks end before the cut.
+ *   refused. docs/CUT_FILES.md has the details. coil_salvage gives back the maps whose blocks end at or before the cut.
  *
  *   Packing the same words again may give other bytes than before request L2 (16 November 2026), of the same length:
  *   the choice between the two predictors goes by leading zero bits since. Nothing needs to be converted. Earlier blocks
@@ -385,37 +386,43 @@ uint32_t coil_replace(uint8_t *file, size_t file_len, size_t length, uint64_t ex
 /* Salvage a file without its end: make a new file, in another buffer, of the blocks that stand whole at the start of
  * the old bytes. For a file that a full disk cut before its directory and trailer were written, or whose end is damaged.
  *
- *   old, old_len       the old bytes, of any length, none included; read only. They need be no file
+ *   old, old_len       the old bytes, of any length, 0 too (and even then the pointer must not be null); read only.
+ *                      They need be no file
  *   file, file_len     the buffer for the new file; COIL_SALVAGE_ROOM(old_len) bytes are always enough (a file has at
- *                      most COIL_MOST_FILE_BYTES, whatever you lend)
+ *                      most COIL_MOST_FILE_BYTES, whatever you lend). To append to it afterwards, lend more
  *   exam               the exam number of the new file, any but 0: take it from the scan log
  *   t                  the t that the old file was made with, 0 to 16: take it from the scan log
  *   new_length         becomes the new file's length
  *   kept               becomes the number of blocks kept, 0 to 1,024
  *   left_over          becomes the number of old bytes behind them: those from old[old_len - *left_over] on
- *   renumbered         becomes 1 (a uint32_t), as a reminder: the old slot numbers stood in the directory and are lost.
- *                      The blocks have the slots 0, 1, 2 and so on, in the order in which they stood
+ *   renumbered         becomes 1, also where nothing was kept: the old slot numbers stood in the directory and are
+ *                      lost. The blocks have the slots 0, 1, 2 and so on, in the order in which they stood. (This
+ *                      number is a uint32_t, the other three are size_t)
  *
  * Checks in order: 8 exam number 0; 7 t above 16; 3 the new file's length above file_len or above 16,777,216. That is
- * its true length: the blocks kept, 12 bytes for each, and 32. There is no other refusal.
+ * its true length: the blocks kept, 12 bytes for each, and 32. There is no other refusal. (A file that these calls made
+ * never passes 16,777,216. Where 3 comes for that, the bytes are not of one file: lend fewer.)
  * From the first byte on, a block is taken while one stands whole: the length that it states is within what is left,
  * and coil_check takes just those bytes (so fewer than 8 bytes are none). It ends at the first that does not stand, and
  * what is behind that one is left over, whole or not. It also ends after 1,024 blocks. Nothing kept is a success, and
  * gives an empty file, as coil_create does.
  * On success the new file opens for exam, and has the old blocks, byte for byte, as they stood. The buffer beyond
- * *new_length is as it was. Of a file that these calls made, cut anywhere, it has just the maps whose blocks end
+ * *new_length is as it was. Of a file that these calls made, cut anywhere, it has just the maps whose blocks end at or
  * before the cut, and coil_fetch gives back their words, with the t that the file was made with. Of a file that opens
- * and whose blocks all pass coil_check it has all blocks. In both cases no byte of the directory is taken for a block. A
- * damaged directory may be: one bit is enough, and then kept is more than the maps that you stored.
+ * and whose blocks all pass coil_check it has all blocks. In both cases no byte of the directory is taken for a block.
+ * Where the directory is damaged it may be taken for one, and one bit is enough: then kept is more than the maps that
+ * you stored. The slots from that number on are no maps.
  *
  * What you lend is believed:
  *
  *   No block tells whose it is, nor with which t it was packed. Under another exam number the maps answer to that exam.
- *   With another t, coil_fetch may answer 0 and give other words.
+ *   With another t, coil_fetch with tables of that size answers 0 all the same, and mostly gives other words; only
+ *   tables of the right size are refused, with 1.
  *
- *   Bytes that were never written, 0s or an older file's, say, are taken for the rest of a block where they fit. So lend
- *   only what was written. Where a program or a disk sets a file's length first and fills it later, the last map kept
- *   may have wrong words.
+ *   Lend only what was written, as many bytes as write answered, say. Where a file was written over an older one, or its
+ *   length was set before it was filled, other bytes stand behind the cut. They may end the block that was cut, so that
+ *   its map has wrong words; and whole blocks of the older file may follow and be kept: maps of another exam, under your
+ *   exam number. kept and left_over do not show it.
  *
  *   A hash that was kept with the whole file says nothing of what is salvaged. */
 uint32_t coil_salvage(const uint8_t *old, size_t old_len, uint8_t *file, size_t file_len,
