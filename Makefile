@@ -5,7 +5,7 @@
 help:
 	@echo "make demo    prove and build the two programs, pack a sample map, list a sample exam (about 2 minutes)"
 	@echo "make lib     prove and build libcoil.a for C (2 to 4 minutes)"
-	@echo "make test    the whole gate, the same as .ci/run (about 13 minutes)"
+	@echo "make test    the whole gate, the same as .ci/run (about 14 minutes)"
 	@echo "make bench   sizes and times beside other codecs (about 3 minutes the first time)"
 
 demo:
@@ -15,7 +15,7 @@ lib:
 	@examples/lib
 
 test:
-	@echo "Proving everything from nothing, trying every wrong version, then the tests from outside. About 13 minutes."
+	@echo "Proving everything from nothing, trying every wrong version, then the tests from outside. About 14 minutes."
 	@bash .ci/run
 
 bench:
