@@ -204,7 +204,6 @@ module _ (old : List ℕ) (exam t : ℕ) where
   pub salvaged-good : t ≤ 16 → 0 < exam → exam < 2 ^ 64 → fileLength file ≤ mostBytes → Good file
   unfolding salvagedFile
   salvaged-good most named fits small =
-      let ps = numbered 0 (wholeBlocks 1024 old) in
       record {
         edition = edition-one;
         t = most;
@@ -251,6 +250,10 @@ module _ {old b b' : List ℕ} {exam t : ℕ} {r : Salvaged} (c : Salvages old b
   unfolding salvaged
   salvage-left-over = ap (λ (x : Salvaged). x .«left_over») (c .answer) ∙ afterwards-new _ _ 0 done
 
+  -- so many of the old bytes were kept
+  pub salvage-body : length old - r .«left_over» ≡ length (salvagedFile old exam t .body)
+  salvage-body = omega (arith, salvage-left-over, salvaged-within old exam t)
+
   pub salvage-length : r .length ≡ fileLength (salvagedFile old exam t)
   unfolding salvaged
   salvage-length = ap (λ (x : Salvaged). x .length) (c .answer) ∙ afterwards-new _ _ 0 done
@@ -281,6 +284,14 @@ module _ {old b b' : List ℕ} {exam t : ℕ} {r : Salvaged} (c : Salvages old b
   pub salvage-renumbers : r .renumbered ≡ 1
   unfolding salvaged
   salvage-renumbers = ap (λ (x : Salvaged). x .renumbered) (c .answer) ∙ afterwards-new _ _ 0 done
+
+  -- where nothing was kept it is the empty file
+  pub salvage-empty : r .kept ≡ 0 → (r .length ≡ 32) × (take 32 b' ≡ fileBytes (empty exam t)) × (r .«left_over» ≡ length old)
+  salvage-empty z =
+      let nothing : bs ≡ [] = length-zero bs (sym salvage-kept ∙ z) in
+      let is : salvagedFile old exam t ≡ empty exam t = salvaged-is old exam t ∙ ap (λ (x : List (List ℕ)). fileOfPieces exam t (numbered 0 x)) nothing in
+      let long : r .length ≡ 32 = salvage-length ∙ ap fileLength is in
+      (long, rw (← long) (salvage-bytes ∙ ap fileBytes is), salvage-left-over ∙ ap (λ (f : File). length old - length (f .body)) is ∙ omega arith)
 
   module _ (fits : exam < 2 ^ 64) where
     pub salvage-holds : Holds b' (r .length) (salvagedFile old exam t)
@@ -316,12 +327,3 @@ module _ {old b b' : List ℕ} {exam t : ℕ} {r : Salvaged} (c : Salvages old b
         let is : length (fileIn (take l b') .body) ≡ n = ap (λ (f : File). length (f .body)) (holds-parts salvage-holds) in
         let ends : x .offset + x .size ≤ n = omega (arith, found-ends b' l exam i z, body-long (take l b'), is) in
         (ends, found-part b' l exam i z ∙ sym (part-of-first (x .size) (x .offset) n b' ends) ∙ rw salvage-first (part-of-first (x .size) (x .offset) n old ends))
-
-module _ {old b b' : List ℕ} {exam t : ℕ} {r : Salvaged} (c : Salvages old b exam t r b') (e : r .number ≡ 0) where
-  -- where nothing was kept it is the empty file
-  pub salvage-empty : r .kept ≡ 0 → (r .length ≡ 32) × (take 32 b' ≡ fileBytes (empty exam t)) × (r .«left_over» ≡ length old)
-  salvage-empty z =
-      let nothing : wholeBlocks 1024 old ≡ [] = length-zero (wholeBlocks 1024 old) (sym (salvage-kept c e) ∙ z) in
-      let is : salvagedFile old exam t ≡ empty exam t = salvaged-is old exam t ∙ ap (λ (x : List (List ℕ)). fileOfPieces exam t (numbered 0 x)) nothing in
-      let long : r .length ≡ 32 = salvage-length c e ∙ ap fileLength is in
-      (long, rw (← long) (salvage-bytes c e ∙ ap fileBytes is), salvage-left-over c e ∙ ap (λ (f : File). length old - length (f .body)) is ∙ omega arith)

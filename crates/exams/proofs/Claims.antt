@@ -44,7 +44,7 @@ use Rattle.exam_rules.proofs.Holds.{Holds, holds-length, holds-parts, holds-ope
 use Rattle.exam_rules.proofs.Pieces.{Wholes, created-pieces, appended-pieces, block-fetched, piece-found, piece-handed, piece-fetched, pieces-tell}
 use Rattle.exam_rules.proofs.Maps.{Fit, reads-by, map-reads, maps-whole, maps-piece, alike-holds, changed-at, changed-maps, changed-fit, renumbered-fit}
 use Rattle.exam_rules.proofs.Cut.{directory-states, directory-counts, never-all-whole}
-use Rattle.exam_rules.proofs.Salvage.{length-numbered, blocks-whole, salvaged-is, salvaged-many, salvaged-few, salvaged-within, salvaged-stop, salvaged-ends, salvaged-long, salvaged-most, salvage-number, salvage-kept, salvage-left-over, salvage-length, salvage-bytes, salvage-first, salvage-renumbers, salvage-beyond, salvage-holds, salvage-piece, salvage-slot, salvage-place, salvage-empty}
+use Rattle.exam_rules.proofs.Salvage.{length-numbered, blocks-whole, salvaged-is, salvaged-many, salvaged-few, salvaged-within, salvaged-stop, salvaged-ends, salvaged-long, salvaged-most, salvage-number, salvage-kept, salvage-left-over, salvage-body, salvage-length, salvage-bytes, salvage-first, salvage-renumbers, salvage-beyond, salvage-holds, salvage-piece, salvage-slot, salvage-place, salvage-empty}
 use Rattle.exam_rules.proofs.Rescued.{directory-no-block, intact-blocks, intact-ends, cut-shorter, kept-most, cut-salvaged, those-within, those-kept}
 use Rattle.exam_rules.proofs.Kept.{found-long, found-size, found-within, found-part, more-holds, more-opens, slot-kept, slot-new}
 use Rattle.exam_rules.proofs.Filling.{words-of, record-numbered, record-refused, record-outside, append-to-record, record-to-append, each-none, each-one, all-opened}
@@ -856,9 +856,7 @@ salvage-is-its-parts {old} {exam = exam} {t = t} w c e = holds-parts (salvage-ho
 -- Each old byte is kept or left over: the blocks kept are the first of them, unchanged, and stand at the new file's start.
 pub salvage-keeps-bytes : {old b b' : List ℕ} {exam t : ℕ} {r : Salvaged} → Salvages old b exam t r b' → r .number ≡ 0
     → (r .«left_over» ≤ length old) × (take (length old - r .«left_over») b' ≡ take (length old - r .«left_over») old)
-salvage-keeps-bytes {old} {exam = exam} {t = t} {r = r} c e =
-    let kept : length old - r .«left_over» ≡ length (salvagedFile old exam t .body) = omega (arith, salvage-left-over c e, salvaged-within old exam t) in
-    (omega (arith, salvage-left-over c e), rw kept (salvage-first c e))
+salvage-keeps-bytes c e = (omega (arith, salvage-left-over c e), rw (salvage-body c e) (salvage-first c e))
 
 -- The new file is those bytes, 12 for each block kept, and 32. At most 1,024 blocks are kept, each has at least 8 bytes, and the answer says that slots are renumbered.
 pub salvage-counts : {old b b' : List ℕ} {exam t : ℕ} {r : Salvaged} → Salvages old b exam t r b' → r .number ≡ 0
@@ -876,9 +874,7 @@ salvage-counts {old} {exam = exam} {t = t} c e =
 -- It stops only where no well-formed block stands, or where 1,024 were kept: a refused block is not passed by.
 pub salvage-stops : {old b b' : List ℕ} {exam t : ℕ} {r : Salvaged} → Salvages old b exam t r b' → r .number ≡ 0
     → (r .kept ≡ 1024) ⊎ (blockStands (drop (length old - r .«left_over») old) ≡ false)
-salvage-stops {old} {exam = exam} {t = t} {r = r} c e =
-    let kept : length old - r .«left_over» ≡ length (salvagedFile old exam t .body) = omega (arith, salvage-left-over c e, salvaged-within old exam t) in
-    rw (kept, salvage-kept c e ∙ sym (salvaged-many old exam t)) (salvaged-stop old exam t)
+salvage-stops {old} {exam = exam} {t = t} c e = rw (salvage-body c e, salvage-kept c e ∙ sym (salvaged-many old exam t)) (salvaged-stop old exam t)
 
 -- Its slots are 0, 1, 2 and so on, as many as blocks were kept, and no other.
 pub salvage-slots : {old b b' : List ℕ} {exam t : ℕ} {r : Salvaged} → exam < 2 ^ 64 → Salvages old b exam t r b' → r .number ≡ 0
@@ -899,12 +895,11 @@ salvage-finds {old} {s = s} w c e h q =
 pub salvage-places : {old b b' : List ℕ} {exam t : ℕ} {r : Salvaged} → exam < 2 ^ 64 → Salvages old b exam t r b' → r .number ≡ 0 → (s : ℕ) → s < r .kept
     → (located b' (r .length) exam s .offset + located b' (r .length) exam s .size ≤ length old - r .«left_over»)
     × (blockIn b' (r .length) s ≡ take (located b' (r .length) exam s .size) (drop (located b' (r .length) exam s .offset) old))
-salvage-places {old} {b' = b'} {exam = exam} {t = t} {r = r} w c e s h =
+salvage-places {b' = b'} {exam = exam} {r = r} w c e s h =
     let i = rw (salvage-kept c e) at h in
     let z = piece-found (salvage-piece c e w s i) in
     let x = located-entry b' (r .length) exam s (locates b' (r .length) exam s z) in
-    let kept : length old - r .«left_over» ≡ length (salvagedFile old exam t .body) = omega (arith, salvage-left-over c e, salvaged-within old exam t) in
-    rw (x .0, x .1, kept) (salvage-place c e w s i)
+    rw (x .0, x .1, salvage-body c e) (salvage-place c e w s i)
 
 -- Where nothing is kept it makes the empty file, as create does.
 pub salvage-of-nothing : {old b b' : List ℕ} {exam t : ℕ} {r : Salvaged} → Salvages old b exam t r b' → r .number ≡ 0 → r .kept ≡ 0
