@@ -2,7 +2,7 @@
  * whole come back, under new slot numbers. With the scan log they are then kept under their old ones.
  *
  * The file stays in memory here. To salvage one on disk, read it into a buffer as it is: its length is how many bytes
- * there are. (Of a file that exam_on_disk.c kept, leave out the first 8 bytes, the hash.)
+ * there are. (Of a file that exam_on_disk.c was writing, leave out the first 8 bytes, the hash.)
  */
 #include "coil.h"
 

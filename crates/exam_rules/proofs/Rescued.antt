@@ -13,10 +13,9 @@ use Rattle.words.specs.Bytes.{number}
 use Rattle.words.proofs.Each.{none, more}
 use Rattle.words.proofs.Tests.{either}
 use Rattle.answers.proofs.Checks.{unless-holds, afterwards-new}
-use Rattle.block_rules.specs.Block.{count, statedLength}
+use Rattle.block_rules.specs.Block.{block, count, statedLength}
 use Rattle.block_rules.specs.Numbers.{blockNumber}
 use Rattle.block_rules.proofs.Accept.{whole}
-use Rattle.block_rules.specs.Block.{block}
 use Rattle.exam_rules.specs.File.{Entry, entry, directoryBytes, trailerBytes, File, fileLength, fileBytes, blockOf}
 use Rattle.exam_rules.specs.Reading.{directoryAt, entriesIn, fileIn, entryOf}
 use Rattle.exam_rules.specs.Numbers.{joins, entriesNumber, directoryNumber, openInNumber, findNumber, blockIn}
@@ -52,7 +51,7 @@ module _ (x : List ℕ) (k : ℕ) where
       rw e at (whole (take n (take k x)) (s .checks) .few)
 
 -- Where bytes state a length of 0, or count more than 65,536 words, no block stands, however they are cut.
-pub no-block-stands : (x : List ℕ) → (statedLength x ≡ 0) ⊎ (65536 < count x) → (k : ℕ) → blockStands (take k x) ≡ false
+no-block-stands : (x : List ℕ) → (statedLength x ≡ 0) ⊎ (65536 < count x) → (k : ℕ) → blockStands (take k x) ≡ false
 no-block-stands x (inl z) k =
     either (blockStands (take k x)) (λ q. let s = stands-whole (take k x) q in absurd (omega (arith, z, stands-long (take k x) s, states-same x k s .1))) (λ q. q)
 no-block-stands x (inr h) k = either (blockStands (take k x)) (λ q. absurd (omega (arith, h, counts-few x k (stands-whole (take k x) q)))) (λ q. q)
@@ -83,16 +82,16 @@ module _ (p y : List ℕ) (w : blockNumber p ≡ 0) (k : ℕ) where
 -- ---- the walk over pieces that were cut
 
 -- how many pieces end within k bytes
-abbrev pub within : ℕ → List Piece → ℕ
+abbrev within : ℕ → List Piece → ℕ
 within k [] = 0
 within k (p ∷ ps) = cond (leb (length (p .block)) k) (suc (within (k - length (p .block)) ps)) 0
 
 -- the blocks of pieces, as a list
-abbrev pub blocks : List Piece → List (List ℕ)
+abbrev blocks : List Piece → List (List ℕ)
 blocks ps = map (λ (p : Piece). p .block) ps
 
 -- Of whole blocks with no block behind them, however they are cut, those are found that end within the cut.
-pub cut-blocks : (ps : List Piece) (tail : List ℕ) → Wholes ps → ((k : ℕ) → blockStands (take k tail) ≡ false) → (n k : ℕ) → length ps ≤ n
+cut-blocks : (ps : List Piece) (tail : List ℕ) → Wholes ps → ((k : ℕ) → blockStands (take k tail) ≡ false) → (n k : ℕ) → length ps ≤ n
     → wholeBlocks n (take k (blocksOf ps ++ tail)) ≡ take (within k ps) (blocks ps)
 unfolding wholeBlocks
 cut-blocks [] tail ws behind zero k h = refl
@@ -109,7 +108,7 @@ cut-blocks (p ∷ ps) tail (more w ws) behind (suc n) k h =
     (λ q. rw (q, e, cut-falls b y w k (leb-false _ _ q)))
 
 -- a piece ends within k bytes just where it is among those that do
-pub ends-within : (first : List Piece) (p : Piece) (rest : List Piece) (k : ℕ) → (length first < within k (first ++ p ∷ rest)) ↔ (length (blocksOf first) + length (p .block) ≤ k)
+ends-within : (first : List Piece) (p : Piece) (rest : List Piece) (k : ℕ) → (length first < within k (first ++ p ∷ rest)) ↔ (length (blocksOf first) + length (p .block) ≤ k)
 ends-within [] p rest k =
     let n = length (p .block) in
     either (leb n k)
@@ -131,7 +130,7 @@ ends-within (x ∷ first) p rest k =
     let l = leb-false n k q in
     rw q ((λ h. absurd (omega arith)), λ h. absurd (omega (arith, la))))
 
-pub within-most : (k : ℕ) (ps : List Piece) → within k ps ≤ length ps
+within-most : (k : ℕ) (ps : List Piece) → within k ps ≤ length ps
 within-most k [] = omega arith
 within-most k (p ∷ ps) = either (leb (length (p .block)) k) (λ q. rw q (omega (arith, within-most (k - length (p .block)) ps))) (λ q. rw q (omega arith))
 
@@ -142,7 +141,7 @@ all-within k (p ∷ ps) h =
     rw (le-leb (length (p .block)) k (omega (arith, la))) (ap suc (all-within (k - length (p .block)) ps (omega (arith, la))))
 
 -- numbering blocks anew leaves their bytes as they are
-pub same-bytes : (slot : ℕ) (ps : List Piece) → blocksOf (numbered slot (blocks ps)) ≡ blocksOf ps
+same-bytes : (slot : ℕ) (ps : List Piece) → blocksOf (numbered slot (blocks ps)) ≡ blocksOf ps
 same-bytes slot [] = refl
 same-bytes slot (p ∷ ps) = ap (λ (l : List ℕ). p .block ++ l) (same-bytes (slot + 1) ps)
 
@@ -247,7 +246,7 @@ tail-is exam t l (p ∷ ps) = inl (entries-state p ps _)
 
 module _ (exam t : ℕ) (ps : List Piece) {b : List ℕ} {l : ℕ} (h : Holds b l (fileOfPieces exam t ps)) (ws : Wholes ps) (k : ℕ) where
   -- the whole blocks from the start of what is left on are those that end within the cut
-  pub cut-pieces : wholeBlocks 1024 (take k (take l b)) ≡ take (within k ps) (blocks ps)
+  cut-pieces : wholeBlocks 1024 (take k (take l b)) ≡ take (within k ps) (blocks ps)
   unfolding fileBytes
   cut-pieces =
       let n = length (entriesOf 0 ps) in
@@ -255,7 +254,7 @@ module _ (exam t : ℕ) (ps : List Piece) {b : List ℕ} {l : ℕ} (h : Holds b 
       rw (h .bytes ∙ append-assoc (blocksOf ps) (directoryBytes (entriesOf 0 ps)) _)
       (cut-blocks ps tail ws (no-block-stands tail (tail-is exam t _ ps)) 1024 k (omega (arith, h .good .few, length-pieces 0 ps)))
 
-  pub cut-many : length (wholeBlocks 1024 (take k (take l b))) ≡ within k ps
+  cut-many : length (wholeBlocks 1024 (take k (take l b))) ≡ within k ps
   cut-many =
       ap length cut-pieces ∙ length-take-le (within k ps) (blocks ps) (omega (arith, within-most k ps, length-map ps (λ (p : Piece). p .block)))
 
@@ -283,11 +282,11 @@ module _ (exam t : ℕ) (first : List Piece) (p : Piece) (rest : List Piece) {b 
   many = salvage-kept c e ∙ cut-many exam t ps h ws k
 
   -- a piece is kept just where its block ends within the cut
-  pub kept-within : (length first < r .kept) ↔ (length (blocksOf first) + length (p .block) ≤ k)
+  kept-within : (length first < r .kept) ↔ (length (blocksOf first) + length (p .block) ≤ k)
   kept-within = rw many (ends-within first p rest k)
 
   -- then its block is in the new file, as the slot of its place
-  pub kept-piece : other < 2 ^ 64 → length first < r .kept → HoldsPiece file' (r .length) other u (record { slot = length first; block = p .block })
+  kept-piece : other < 2 ^ 64 → length first < r .kept → HoldsPiece file' (r .length) other u (record { slot = length first; block = p .block })
   kept-piece fits h' =
       let n = length first in
       let bs : wholeBlocks 1024 (take k (take l b)) ≡ take (within k ps) (blocks ps) = cut-pieces exam t ps h ws k in
@@ -310,7 +309,7 @@ numbered-maps t slot [] = refl
 numbered-maps t slot (m ∷ ms) = ap (λ (l : List Piece). record { slot = slot; block = block t (m .words) } ∷ l) (numbered-maps t (slot + 1) ms)
 
 -- what salvage makes of it is the file of the maps whose blocks end within the cut, renumbered
-pub cut-maps : (exam t : ℕ) (ms : List Map) {b : List ℕ} {l : ℕ} → Holds b l (fileOf exam t ms) → Wholes (map (pieceOf t) ms) → (k other : ℕ)
+cut-maps : (exam t : ℕ) (ms : List Map) {b : List ℕ} {l : ℕ} → Holds b l (fileOf exam t ms) → Wholes (map (pieceOf t) ms) → (k other : ℕ)
     → salvagedFile (take k (take l b)) other t ≡ fileOf other t (renumberedFrom 0 (take (within k (map (pieceOf t) ms)) ms))
 unfolding salvagedFile
 cut-maps exam t ms h ws k other =

@@ -59,7 +59,7 @@ pub length-numbered : (slot : ℕ) (bs : List (List ℕ)) → length (numbered s
 length-numbered slot [] = refl
 length-numbered slot (b ∷ bs) = ap suc (length-numbered (slot + 1) bs)
 
-pub numbered-append : (slot : ℕ) (xs ys : List (List ℕ)) → numbered slot (xs ++ ys) ≡ numbered slot xs ++ numbered (slot + length xs) ys
+numbered-append : (slot : ℕ) (xs ys : List (List ℕ)) → numbered slot (xs ++ ys) ≡ numbered slot xs ++ numbered (slot + length xs) ys
 numbered-append slot [] ys =
     let e : slot + 0 ≡ slot = omega arith in
     rw e
@@ -70,7 +70,7 @@ numbered-append slot (x ∷ xs) ys =
 -- ---- whole blocks from the start of bytes on
 
 -- one after another they are the first of the bytes
-pub blocks-first : (n slot : ℕ) (bs : List ℕ) → take (length (blocksOf (numbered slot (wholeBlocks n bs)))) bs ≡ blocksOf (numbered slot (wholeBlocks n bs))
+blocks-first : (n slot : ℕ) (bs : List ℕ) → take (length (blocksOf (numbered slot (wholeBlocks n bs)))) bs ≡ blocksOf (numbered slot (wholeBlocks n bs))
 unfolding wholeBlocks
 blocks-first zero slot bs = refl
 blocks-first (suc n) slot bs =
@@ -117,7 +117,7 @@ blocks-long (suc n) slot bs =
     (λ q. rw q (omega arith))
 
 -- where they are fewer than asked for, no block stands behind them
-pub blocks-stop : (n slot : ℕ) (bs : List ℕ) → (length (wholeBlocks n bs) ≡ n) ⊎ (blockStands (drop (length (blocksOf (numbered slot (wholeBlocks n bs)))) bs) ≡ false)
+blocks-stop : (n slot : ℕ) (bs : List ℕ) → (length (wholeBlocks n bs) ≡ n) ⊎ (blockStands (drop (length (blocksOf (numbered slot (wholeBlocks n bs)))) bs) ≡ false)
 unfolding wholeBlocks
 blocks-stop zero slot bs = inl refl
 blocks-stop (suc n) slot bs =
@@ -201,7 +201,7 @@ module _ (old : List ℕ) (exam t : ℕ) where
   salvaged-most = omega (arith, salvaged-few, salvaged-within, salvaged-long)
 
   -- it keeps the rules and fits its fields
-  pub salvaged-good : t ≤ 16 → 0 < exam → exam < 2 ^ 64 → fileLength file ≤ mostBytes → Good file
+  salvaged-good : t ≤ 16 → 0 < exam → exam < 2 ^ 64 → fileLength file ≤ mostBytes → Good file
   unfolding salvagedFile
   salvaged-good most named fits small =
       record {
@@ -225,7 +225,7 @@ numbered-slot slot at (b ∷ bs) (suc i) d h = numbered-slot (slot + 1) (at + le
 -- ---- the call
 
 -- of its answer, the number and the length are those of a call that makes a file
-pub salvage-changes : {old b b' : List ℕ} {exam t : ℕ} {r : Salvaged} → Salvages old b exam t r b'
+salvage-changes : {old b b' : List ℕ} {exam t : ℕ} {r : Salvaged} → Salvages old b exam t r b'
     → Changes (salvagesNumber old b exam t) (salvagedFile old exam t) b (record { number = r .number; length = r .length }) b'
 unfolding salvaged made
 salvage-changes c = record { answer = ap (λ (x : Salvaged). record { number = x .number; length = x .length }) (c .answer); fileLeft = c .fileLeft }

@@ -36,7 +36,7 @@ list-starts file old at n h =
 
 module _ (file₀ old : List ℕ) (at n : ℕ) (file : List ℕ) (offset place i : ℕ) (h : i < n) (g : Listed file₀ old at n file offset place i) where
   -- while entries are left, a block stands
-  pub list-stands : StandsWhole (drop offset old)
+  list-stands : StandsWhole (drop offset old)
   list-stands =
       let bs = drop offset old in
       either (blockStands bs) (λ q. stands-whole bs q) (λ q. absurd (omega (arith, g .left, ap length (no-next-block bs i (omega (arith, g .few)) q))))

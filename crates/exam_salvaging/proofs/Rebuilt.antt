@@ -28,14 +28,14 @@ module _ (old : List ℕ) (s : Found) (f : FoundIn old s) (exam t : ℕ) where
   abbrev file : File
   file = salvagedFile old exam t
 
-  pub found-kept : s .kept ≡ length (file .entries)
+  found-kept : s .kept ≡ length (file .entries)
   found-kept = f .kept ∙ sym (salvaged-many old exam t)
 
-  pub found-end : s .end ≡ length (file .body)
+  found-end : s .end ≡ length (file .body)
   unfolding salvagedFile
   found-end = f .end
 
-  pub found-length : newLength (s .kept) (s .end) ≡ fileLength file
+  found-length : newLength (s .kept) (s .end) ≡ fileLength file
   found-length = omega (arith, found-kept, found-end)
 
   -- so the number that is worked out from them is salvage's

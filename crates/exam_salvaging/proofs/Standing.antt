@@ -53,12 +53,12 @@ is-whole old at size k e within q z =
     rw stands is
 
 -- what a size tells
-pub size-tells : (bs : List ℕ) (size : ℕ) → size ≡ standingSize bs → (size ≡ 0 → ⊥) → StandsWhole bs × (size ≡ statedLength bs)
+size-tells : (bs : List ℕ) (size : ℕ) → size ≡ standingSize bs → (size ≡ 0 → ⊥) → StandsWhole bs × (size ≡ statedLength bs)
 unfolding standingSize
 size-tells bs size =
     either (blockStands bs) (λ q. rw q (λ e h. (stands-whole bs q, e))) (λ q. rw q (λ e h. absurd (h e)))
 
-pub no-size-tells : (bs : List ℕ) (size : ℕ) → size ≡ standingSize bs → size ≡ 0 → blockStands bs ≡ false
+no-size-tells : (bs : List ℕ) (size : ℕ) → size ≡ standingSize bs → size ≡ 0 → blockStands bs ≡ false
 unfolding standingSize
 no-size-tells bs size =
     either (blockStands bs) (λ q. rw q (λ e z. absurd (omega (arith, e, z, stands-long bs (stands-whole bs q))))) (λ q. rw q (λ e z. refl))
