@@ -29,7 +29,7 @@ use Rattle.exam_rules.proofs.Accept.{Storable, storable, find-tells}
 use Rattle.exam_rules.proofs.Stored.{packed-all, bench-within}
 use Rattle.exam_opening.specs.Inside.{PartOf}
 use Rattle.exam_opening.specs.declared.Part.{Part}
-use Rattle.exam_replacing.specs.Inside.{Replacing, rewritten, Rewrites}
+use Rattle.exam_rewriting.specs.Inside.{Replacing, rewritten, Rewrites}
 
 module _ (b : List ℕ) (l exam slot : ℕ) (words fcm dfcm bench : List ℕ) where
   replace-stopped : (n : ℕ) → n ≡ replacesNumber b l exam slot words fcm dfcm bench → (n ≡ 0 → ⊥)

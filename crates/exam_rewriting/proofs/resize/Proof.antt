@@ -1,8 +1,8 @@
 use native.Mathlib.Omega.{arith}
 use borrow.Author.Needs.{needs}
-use Rattle.exam_replacing.proofs.Offsets.{resizes}
-use Rattle.exam_replacing.proofs.resize.Statement.{statement}
-use Rattle.exam_replacing.proofs.resize.Tie as tie
+use Rattle.exam_rewriting.proofs.Offsets.{resizes}
+use Rattle.exam_rewriting.proofs.resize.Statement.{statement}
+use Rattle.exam_rewriting.proofs.resize.Tie as tie
 
 add-move-offsets : tie.Need-add-move-offsets
 add-move-offsets c = search needs

@@ -13,7 +13,7 @@ use Rattle.exam_rules.specs.Reading.{entryAt, entriesAt}
 use Rattle.exam_rules.proofs.Directory.{Place, place-starts, place-on, length-entries}
 use Rattle.exam_rules.proofs.Lengths.{length-entry, length-directory}
 use Rattle.exam_rules.proofs.Entries.{directory-snoc, entries-snoc, put-offset, put-size}
-use Rattle.exam_replacing.specs.Inside.{Behind, movedBytes, resizedBytes}
+use Rattle.exam_rewriting.specs.Inside.{Behind, movedBytes, resizedBytes}
 
 pub length-moved : (f : List ℕ) (at n old new : ℕ) → length (movedBytes f at n old new) ≡ 12 * n
 length-moved f at n old new = length-directory (map (moved old new) (entriesAt f at n)) ∙ ap (λ (k : ℕ). 12 * k) (length-map (entriesAt f at n) (moved old new) ∙ length-entries f n at)

@@ -1,8 +1,8 @@
 use native.Mathlib.Omega.{arith}
 use borrow.Author.Needs.{needs}
-use Rattle.exam_replacing.proofs.Rewriting.{lies, stands-behind, stands-with, exchanging, rewrites}
-use Rattle.exam_replacing.proofs.replace_block.Statement.{statement}
-use Rattle.exam_replacing.proofs.replace_block.Tie as tie
+use Rattle.exam_rewriting.proofs.Rewriting.{lies, stands-behind, stands-with, exchanging, rewrites}
+use Rattle.exam_rewriting.proofs.replace_block.Statement.{statement}
+use Rattle.exam_rewriting.proofs.replace_block.Tie as tie
 
 sub-old : tie.Need-sub-old
 sub-old c = search needs

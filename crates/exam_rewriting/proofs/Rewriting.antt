@@ -24,8 +24,8 @@ use Rattle.exam_rules.proofs.Entries.{directory-back, entry-in-first, entries-i
 use Rattle.exam_rules.proofs.Stands.{stands-ends, stands-body, stands-exam}
 use Rattle.exam_rules.proofs.Resized.{found-slot, length-resized, length-replaced}
 use Rattle.exam_opening.specs.declared.Part.{Part}
-use Rattle.exam_replacing.specs.Inside.{Behind, resizedBytes, Exchanging, Replacing, rewritten, Rewrites}
-use Rattle.exam_replacing.proofs.Offsets.{length-moved}
+use Rattle.exam_rewriting.specs.Inside.{Behind, resizedBytes, Exchanging, Replacing, rewritten, Rewrites}
+use Rattle.exam_rewriting.proofs.Offsets.{length-moved}
 
 -- how the parts of the file lie in the buffer
 pub record Lies (b blk : List ℕ) (l : ℕ) (tr : Trailer) (p : Part) : Type 0 where

@@ -1,7 +1,7 @@
 use borrow.Author.Needs.{needs}
 use Rattle.words.proofs.Stores.{put-before}
-use Rattle.exam_replacing.proofs.exchange.Statement.{statement}
-use Rattle.exam_replacing.proofs.exchange.Tie as tie
+use Rattle.exam_rewriting.proofs.exchange.Statement.{statement}
+use Rattle.exam_rewriting.proofs.exchange.Tie as tie
 
 add-from : tie.Need-add-from
 add-from c = search needs

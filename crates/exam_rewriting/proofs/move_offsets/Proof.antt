@@ -1,9 +1,9 @@
 use Prim.Native.Nat.{_-_}
 use native.Mathlib.Omega.{arith}
 use borrow.Author.Needs.{needs}
-use Rattle.exam_replacing.proofs.Offsets.{Moving, moving-starts, offset-fits, moving-on, moving-ends}
-use Rattle.exam_replacing.proofs.move_offsets.Statement.{statement}
-use Rattle.exam_replacing.proofs.move_offsets.Tie as tie
+use Rattle.exam_rewriting.proofs.Offsets.{Moving, moving-starts, offset-fits, moving-on, moving-ends}
+use Rattle.exam_rewriting.proofs.move_offsets.Statement.{statement}
+use Rattle.exam_rewriting.proofs.move_offsets.Tie as tie
 
 abbrev Inv-loop : tie.InvT-loop
 Inv-loop file₀ at n old new place₀ i₀ file place i = Moving file₀ at n old new file place i
