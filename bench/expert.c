@@ -127,6 +127,46 @@ static size_t promised(const uint8_t *codes, size_t count)
     return count % 2 == 0 ? bytes : bytes + bytes_written((codes[count / 2] >> 4) & 7);
 }
 
+/* What a code byte says of its two residuals: where the first ends, where both end, and what the two top bytes of each
+ * must not be below. A top byte of 0 is padding; by low bits 3 it takes two; low bits 7 have no byte. */
+typedef struct {
+    uint16_t first, both, least_first, least_second;
+} code_pair;
+
+#define WRITTEN(low) (8 - (low) - ((low) >> 2))
+#define LEAST(low) ((low) == 7 ? 0 : (low) == 3 ? 1 : 256)
+#define PAIR(high, low) { WRITTEN(high), WRITTEN(high) + WRITTEN(low), LEAST(high), LEAST(low) }
+#define EIGHT(high) PAIR(high, 0), PAIR(high, 1), PAIR(high, 2), PAIR(high, 3), \
+                    PAIR(high, 4), PAIR(high, 5), PAIR(high, 6), PAIR(high, 7)
+#define SIXTEEN(high) EIGHT(high), EIGHT(high)      /* the predictor's bit says nothing here */
+#define HALF SIXTEEN(0), SIXTEEN(1), SIXTEEN(2), SIXTEEN(3), SIXTEEN(4), SIXTEEN(5), SIXTEEN(6), SIXTEEN(7)
+
+static const code_pair code_pairs[256] = { HALF, HALF };
+
+/* The last two bytes before the end. Of a residual of one byte the other stands before it, which is in the block too,
+ * and does not matter: it is the low one. */
+static inline unsigned top_two(const uint8_t *end)
+{
+    uint16_t value;
+    memcpy(&value, end - 2, 2);
+    return value;
+}
+
+/* Only the place goes from turn to turn, and no turn branches. The filler, which is 7 by now, is a code without a byte,
+ * so that an odd count needs nothing of its own. */
+static int padded(const uint8_t *codes, size_t code_bytes)
+{
+    const uint8_t *at = codes + code_bytes;
+    unsigned fault = 0;
+    for (size_t i = 0; i < code_bytes; i++) {
+        const code_pair *pair = &code_pairs[codes[i]];
+        fault |= top_two(at + pair->first) < pair->least_first;
+        at += pair->both;
+        fault |= top_two(at) < pair->least_second;
+    }
+    return fault != 0;
+}
+
 uint32_t expert_check(const uint8_t *block, size_t block_len)
 {
     if (block_len < HEADER) {
@@ -141,7 +181,10 @@ uint32_t expert_check(const uint8_t *block, size_t block_len)
         || fixed + promised(block + HEADER, count) != block_len) {
         return 5;
     }
-    return count % 2 == 1 && (block[fixed - 1] & 15) != FILLER ? 6 : 0;
+    if (count % 2 == 1 && (block[fixed - 1] & 15) != FILLER) {
+        return 6;
+    }
+    return padded(block + HEADER, fixed - HEADER) ? 13 : 0;
 }
 
 /* By the low bits of the code. */

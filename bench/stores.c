@@ -116,6 +116,29 @@ static int agree_on(const input *in, const job *j)
     return 1;
 }
 
+static unsigned long padded;    /* blocks that all three checks refused with 13 */
+
+/* The block that the store packed last, with two bytes of 0 at one place after another near its end: the checks answer
+ * the same. A check that asks for less would be faster. */
+static int agree_on_padding(const input *in, const job *j)
+{
+    uint8_t *block = of_store.block;
+    const size_t length = of_store.length;
+    for (size_t at = length > 48 ? length - 40 : 8; at + 2 <= length; at++) {
+        uint8_t kept[2] = { block[at], block[at + 1] };
+        block[at] = block[at + 1] = 0;
+        uint32_t number = coil_check(block, length);
+        if (number != ref_check(block, length) || number != expert_check(block, length)) {
+            fprintf(stderr, "bench: the checks differ on %s, %zu words, t = %u, with two bytes of 0 at %zu\n",
+                    in->name, j->count, j->t, at);
+            return 0;
+        }
+        padded += number == COIL_PADDED;
+        memcpy(block + at, kept, 2);
+    }
+    return 1;
+}
+
 int stores_agree(void)
 {
     static const size_t counts[] = { 0, 1, 2, 3, 4, 5, 7, 8, 9, 63, 1001, 4096, 65535, 65536 };
@@ -127,11 +150,14 @@ int stores_agree(void)
             size_t from = counts[k] <= MOST_WORDS / 2 ? MOST_WORDS / 2 : 0;
             for (unsigned t = 0; t <= 16; t++) {
                 job j = { words + from, counts[k], row_words(counts[k]), t };
-                if (!agree_on(&inputs[i], &j)) {
+                if (!agree_on(&inputs[i], &j) || (t == 10 && !agree_on_padding(&inputs[i], &j))) {
                     return 0;
                 }
             }
         }
     }
-    return 1;
+    if (padded == 0) {
+        fprintf(stderr, "bench: no check refused a padded residual\n");
+    }
+    return padded > 0;
 }

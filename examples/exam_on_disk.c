@@ -71,6 +71,7 @@ static const char *what_to_do(uint32_t number)
                "to create or salvage: t above 16";
     case COIL_BAD_BLOCK_LENGTH:
     case COIL_BAD_FILLER:
+    case COIL_PADDED:
         return "the file is damaged: take the copy";
     case COIL_BAD_DIRECTORY:
         return "the file is damaged: take the copy, or see docs/CUT_FILES.md";
@@ -354,7 +355,7 @@ int main(int argc, char **argv)
     load_all(ALL_MAPS);
     printf("what to do for each number:\n");
     for (uint32_t number = 0; number <= COIL_BAD_RECORD; number++)
-        if (number <= COIL_FILE_FULL || number == COIL_BAD_RECORD)      /* no call answers 13 or 14 */
+        if (number <= COIL_PADDED || number == COIL_BAD_RECORD)         /* no call answers 14 */
             printf("%6u  %s\n", (unsigned)number, what_to_do(number));
     return 0;
 }

@@ -30,7 +30,7 @@
  *
  * WHAT IS ANSWERED
  *
- * Every call answers one number, 0 to 12 or 15, listed below. 0 is success.
+ * Every call answers one number, 0 to 13 or 15, listed below. 0 is success.
  *
  *   On success, each lent number holds its result. Each buffer written holds its result first and its
  *   old content beyond, with two exceptions: coil_replace clears what a file that gets shorter leaves free, and
@@ -167,8 +167,11 @@ extern "C" {
 #define COIL_SLOT_NOT_ABOVE 11u
 /* Append, and each record of coil_append_all: the file has 1,024 entries already. */
 #define COIL_FILE_FULL 12u
-/* A record of coil_append_all: its first word plus its count is above the length of the word buffer. (13 and 14 are
- * not used.) */
+/* The block has a residual with zero bytes on top that a smaller code would have left out. No packer writes that, nor
+ * did one before request L2, so the block is damaged. (A library from before request L6 took such a block.) */
+#define COIL_PADDED 13u
+/* A record of coil_append_all: its first word plus its count is above the length of the word buffer. (14 is not
+ * used.) */
 #define COIL_BAD_RECORD 15u
 
 /* ---- Blocks ----------------------------------------------------------------------------------- */
@@ -191,7 +194,7 @@ uint32_t coil_pack(const uint64_t *words, size_t words_len,
  *
  *   block, block_len   the bytes; read only
  *
- * Checks in order: 4 under 8 bytes; 2 declares more than 65,536 words; 5 length; 6 filler.
+ * Checks in order: 4 under 8 bytes; 2 declares more than 65,536 words; 5 length; 6 filler; 13 a padded residual.
  * A block that passes is not refused by coil_unpack, given two valid tables and the room. It need
  * not be a block that coil_pack would write: blocks packed before request L2 pass too. The number of words it
  * declares is its first 4 bytes, least significant byte first: so much room coil_unpack asks for. */
@@ -204,7 +207,7 @@ uint32_t coil_check(const uint8_t *block, size_t block_len);
  *   words, words_len   room for the words; as many as the block declares are enough
  *   count              becomes the number of words
  *
- * Checks in order: 1 tables; then those of coil_check (4, 2, 5, 6); 3 words_len under the count.
+ * Checks in order: 1 tables; then those of coil_check (4, 2, 5, 6, 13); 3 words_len under the count.
  * On success the first *count words are the result and the rest of words is as it was.
  * Tables of another size than the block was packed with may give other words and the answer 0. */
 uint32_t coil_unpack(const uint8_t *block, size_t block_len,
@@ -269,7 +272,7 @@ uint32_t coil_find(const uint8_t *file, size_t file_len, size_t length, uint64_t
  *                      significant byte first; COIL_MOST_WORDS are always enough
  *   count              becomes the number of words
  *
- * Checks in order: open (4, 7, 8, 9); 10 slot; 1 tables; the block's checks (2, 5, 6; not 4, since a block
+ * Checks in order: open (4, 7, 8, 9); 10 slot; 1 tables; the block's checks (2, 5, 6, 13; not 4, since a block
  * in a file has at least 8 bytes); 3 words_len under the count.
  * On success the first *count words are the result and the rest of words is as it was. */
 uint32_t coil_fetch(const uint8_t *file, size_t file_len, size_t length, uint64_t exam, uint32_t slot,

@@ -108,11 +108,17 @@ static void every_table_size(void)
     }
 }
 
-/* Well-formed blocks that the packer would not write: any code, any residual bytes. */
+/* Well-formed blocks that the packer would not write: any code, any residual bytes. Padded ones are refused. */
 static void is_read(size_t length, size_t count, uint32_t t)
 {
     must_answer(compare_check(block, length), 0);
     must_answer(compare_unpack(block, length, tables_of(t), count + random_below(3)), 0);
+}
+
+static void is_refused(size_t length, size_t count, uint32_t t)
+{
+    must_answer(compare_check(block, length), 13);
+    must_answer(compare_unpack(block, length, tables_of(t), count + random_below(3)), 13);
 }
 
 void group_blocks(unsigned rounds)
@@ -122,4 +128,5 @@ void group_blocks(unsigned rounds)
     every_room();
     every_table_size();
     every_forged_block("a forged block", rounds, block, is_read);
+    every_padded_block("a forged block, padded", rounds, block, is_refused);
 }

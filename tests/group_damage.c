@@ -73,21 +73,25 @@ static void every_length_of_a_block(size_t length, uint32_t t)
     put_field(block, 4, count);
 }
 
-static void damaged_blocks(unsigned rounds)
+/* As it is packed; of any codes and bytes; and so, with a residual that is padded already. */
+static size_t make_block(size_t count, uint32_t t)
 {
     uint64_t words[12];
+    size_t kind = random_below(4);
+    if (kind < 2) {
+        make_words((kind_of_words)random_below(KINDS), words, count);
+        outcome packed = compare_pack(words, count, tables_of(t), WORST(count));
+        memcpy(block, packed.bytes, packed.first);
+        return packed.first;
+    }
+    return kind == 2 || count == 0 ? forge_block(block, count) : forge_padded_block(block, count);
+}
+
+static void damaged_blocks(unsigned rounds)
+{
     for (unsigned round = 0; round < 8 * rounds; round++) {
         uint32_t t = (uint32_t)random_below(7);
-        size_t count = round % 12;
-        size_t length;
-        if (random_below(2)) {
-            make_words((kind_of_words)random_below(KINDS), words, count);
-            outcome packed = compare_pack(words, count, tables_of(t), WORST(count));
-            length = packed.first;
-            memcpy(block, packed.bytes, length);
-        } else {
-            length = forge_block(block, count);
-        }
+        size_t length = make_block(round % 12, t);
         every_bit_of_a_block(length, t);
         every_byte_of_a_block(length, t);
         every_length_of_a_block(length, t);

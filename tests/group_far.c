@@ -152,6 +152,30 @@ static void one_word_too_many(void)
     }
 }
 
+/* One residual of so many words is padded: the last, and the first. */
+static void padded_in_many_words(size_t count, unsigned last_code)
+{
+    static uint8_t codes[MOST_WORDS];
+    for (size_t i = 0; i < count; i++) {
+        codes[i] = (uint8_t)random_below(16);
+    }
+    codes[0] = 8;
+    codes[count - 1] = (uint8_t)last_code;
+    size_t length = forge_block_of(block, codes, count), top = residual_at(block, 0) + 7;
+    uint8_t kept[2] = { block[length - 2], block[length - 1] };
+    this_case_is("%zu words, the last code is %X", count, last_code);
+    must_answer(compare_check(block, length), 0);
+    must_answer(compare_unpack(block, length, tables_of(9), count), 0);
+    pad_residual(block, count - 1);
+    must_answer(compare_check(block, length), 13);
+    must_answer(compare_unpack(block, length, tables_of(9), count), 13);
+    must_answer(compare_unpack(block, length, tables_of(9), count - 1), 13);
+    memcpy(block + length - 2, kept, 2);
+    must_answer(compare_check(block, length), 0);
+    block[top] = 0;
+    must_answer(compare_check(block, length), 13);
+}
+
 /* ---- Entries ---- */
 
 /* No entry is added, so a full directory is no hindrance. */
@@ -205,7 +229,7 @@ static void most_entries(void)
 /* ---- 16 MiB ---- */
 
 /* A long block. Its two fields are 0, so it is not well formed; what follows is random, so that a part that does
- * not move with the rest is seen. */
+ * not move with the rest is seen. No byte of that is 0: as residual bytes none would be padding. */
 static const uint8_t *filling(void)
 {
     static uint8_t *bytes;
@@ -213,7 +237,7 @@ static const uint8_t *filling(void)
         bytes = calloc(LIMIT + 64, 1);
         must_hold(bytes != NULL, "memory for the filling");
         for (size_t at = 8; at < LIMIT; at += 8) {
-            uint64_t any = random_word();
+            uint64_t any = random_word() | UINT64_C(0x0101010101010101);
             memcpy(bytes + at, &any, 8);
         }
     }
@@ -388,6 +412,13 @@ static void salvage_up_to_the_limit(void)
     outcome last = compare_find(lend_with_spare(&f, 0), FULL_BLOCKS + 1);
     must_hold(last.answer == 0 && last.first + last.second == size, "the last block is found at the row's end");
     forget_exam_file(&f);
+    this_case_is("the last of the full blocks is padded in its last residual");
+    row[FULL_BLOCKS * FULL - 1] = 0;
+    result = compare_salvage(row, size, LIMIT, 6, 3);
+    must_answer(result, 0);
+    must_hold(result.second == FULL_BLOCKS - 1 && result.left_over == size - (FULL_BLOCKS - 1) * FULL,
+              "it ends the salvage");
+    row[FULL_BLOCKS * FULL - 1] = 1;
     this_case_is("one block too many for the limit");
     size += put_short_block(row + size, 8);
     must_answer(compare_salvage(row, size, LIMIT + 1000, 6, 3), 3);
@@ -606,6 +637,10 @@ void group_far(unsigned rounds)
     ends_of_slot_and_exam();
     most_entries();
     one_word_too_many();
+    padded_in_many_words(MOST_WORDS, 6);
+    padded_in_many_words(MOST_WORDS, 3);
+    padded_in_many_words(MOST_WORDS - 1, 8);
+    padded_in_many_words(MOST_WORDS - 1, 14);
     most_words_in_a_file();
     most_words_in_a_list();
     sixteen_full_maps();

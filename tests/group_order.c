@@ -47,11 +47,13 @@ static void order_of_create(void)
     }
 }
 
-/* A block of three zeros with the rules of the mask broken: 4 short, 2 count, 5 length, 6 filler. */
+#define BLOCK 11
+
+/* A block of three words with the rules of the mask broken: 4 short, 2 count, 5 length, 6 filler, 13 padded. */
 static size_t broken_block(uint8_t *block, unsigned broken)
 {
-    static const uint8_t right[10] = { 3, 0, 0, 0, 10, 0, 0, 0, 0x77, 0x77 };
-    memcpy(block, right, 10);
+    static const uint8_t right[BLOCK] = { 3, 0, 0, 0, BLOCK, 0, 0, 0, 0x76, 0x77, 1 };
+    memcpy(block, right, BLOCK);
     if (broken & 2) {
         put_field(block, 4, broken & 4 ? TOO_MANY : UINT32_MAX);
     }
@@ -61,25 +63,28 @@ static size_t broken_block(uint8_t *block, unsigned broken)
     if (broken & 8) {
         block[9] = 0x7F;
     }
-    return broken & 1 ? 7 : 10;
+    if (broken & 16) {
+        block[10] = 0;
+    }
+    return broken & 1 ? 7 : BLOCK;
 }
 
 static void order_of_blocks(void)
 {
-    static const uint32_t check_list[4] = { 4, 2, 5, 6 };
-    static const uint32_t unpack_list[6] = { 1, 4, 2, 5, 6, 3 };
-    uint8_t block[10];
-    for (unsigned broken = 0; broken < 16; broken++) {
+    static const uint32_t check_list[5] = { 4, 2, 5, 6, 13 };
+    static const uint32_t unpack_list[7] = { 1, 4, 2, 5, 6, 13, 3 };
+    uint8_t block[BLOCK];
+    for (unsigned broken = 0; broken < 32; broken++) {
         size_t length = broken_block(block, broken);
         this_case_is("order of check, broken %X", broken);
-        must_answer(compare_check(block, length), first_broken(check_list, 4, broken));
+        must_answer(compare_check(block, length), first_broken(check_list, 5, broken));
     }
-    for (unsigned broken = 0; broken < 64; broken++) {
-        size_t length = broken_block(block, broken >> 1 & 15);
+    for (unsigned broken = 0; broken < 128; broken++) {
+        size_t length = broken_block(block, broken >> 1 & 31);
         table_sizes tables = { broken & 1 ? 3 : 4, broken & 1 ? 3 : 4 };
         this_case_is("order of unpack, broken %X", broken);
-        must_answer(compare_unpack(block, length, tables, broken & 32 ? 2 : 3),
-                    first_broken(unpack_list, 6, broken));
+        must_answer(compare_unpack(block, length, tables, broken & 64 ? 2 : 3),
+                    first_broken(unpack_list, 7, broken));
     }
 }
 
@@ -111,18 +116,18 @@ static void mend_file(exam_file *f)
 
 static void order_of_reading(table_sizes wrong)
 {
-    static const uint32_t list[10] = { 4, 7, 8, 9, 10, 1, 2, 5, 6, 3 };
-    static uint8_t block[10];
-    for (unsigned broken = 0; broken < 1024; broken++) {
+    static const uint32_t list[11] = { 4, 7, 8, 9, 10, 1, 2, 5, 6, 13, 3 };
+    static uint8_t block[BLOCK];
+    for (unsigned broken = 0; broken < 2048; broken++) {
         exam_file f = new_exam_file(100, 77, 2);
-        broken_block(block, broken >> 5 & 14);
-        add_block(&f, 9, block, 10);
+        broken_block(block, broken >> 5 & 30);
+        add_block(&f, 9, block, BLOCK);
         lent_file lending = broken_file(&f, broken & 15, 0);
         uint32_t slot = broken & 16 ? 8 : 9;
         table_sizes tables = broken & 32 ? wrong : tables_of(2);
         this_case_is("order of fetch, broken %X, wrong tables %zu and %zu", broken, wrong.fcm, wrong.dfcm);
-        must_answer(compare_fetch(lending, slot, tables, broken & 512 ? 2 : 3),
-                    first_broken(list, 10, broken));
+        must_answer(compare_fetch(lending, slot, tables, broken & 1024 ? 2 : 3),
+                    first_broken(list, 11, broken));
         if (broken < 32) {
             must_answer(compare_find(lending, slot), first_broken(list, 5, broken));
             must_answer(compare_open(lending), first_broken(list, 4, broken));

@@ -389,20 +389,28 @@ static void a_directory_that_reads_as_a_block(void)
     forget_exam_file(&f);
 }
 
-/* Opening does not look into a block. In a file that no call made, one can state more bytes than its entry, and take
- * the directory for its code and residual bytes: two words by the codes 0 and 4, which the slot reads as. */
-static void a_directory_inside_a_block(void)
+/* A file whose one block states more bytes than its entry, and so takes the directory for its code and residual bytes:
+ * two words, by the codes that the slot reads as. */
+static void reaches_on(uint32_t slot, uint8_t stated, size_t kept, size_t left_over)
 {
-    static const uint8_t reaches_on[8] = { 2, 0, 0, 0, 20, 0, 0, 0 };
+    const uint8_t block[8] = { 2, 0, 0, 0, stated, 0, 0, 0 };
     exam_file f = new_exam_file(52, 5, 1);
-    add_block(&f, 4, reaches_on, sizeof reaches_on);
+    add_block(&f, slot, block, sizeof block);
     old_len = 0;
     add_bytes(f.bytes, f.length);
-    this_case_is("a file that opens, with a block that reaches over the directory");
+    this_case_is("a file that opens, with a block that reaches over the directory, slot %u", slot);
     must_answer(compare_open(lend_with_spare(&f, 0)), 0);
-    must_answer(compare_fetch(lend_with_spare(&f, 0), 4, tables_of(1), 2), 5);
-    must_hold(keeps(1, 0, 5, 1).left_over == 32, "the trailer alone is left over");
+    must_answer(compare_fetch(lend_with_spare(&f, 0), slot, tables_of(1), 2), 5);
+    must_hold(keeps(kept, 0, 5, 1).left_over == left_over, "what is behind the block is left over");
     forget_exam_file(&f);
+}
+
+/* Opening does not look into a block, so a file that no call made can have one. By the codes 0 and 3 the residual bytes
+ * end in the mark. By 0 and 4 they end with the directory, and the last three of them are 0: padding. */
+static void a_directory_inside_a_block(void)
+{
+    reaches_on(3, 22, 1, 30);
+    reaches_on(4, 20, 0, 52);
 }
 
 /* ---- A wrong block at each place of a row ---- */
@@ -414,7 +422,7 @@ static const struct {
     const char *what;
     uint32_t number;
     size_t size;
-    uint8_t bytes[10];
+    uint8_t bytes[14];
 } wrong_blocks[] = {
     { "states no byte", 4, 9, { 1, 0, 0, 0, 0, 0, 0, 0, 0x77 } },
     { "is 8 bytes of 0", 4, 8, { 0 } },
@@ -428,7 +436,11 @@ static const struct {
     { "has 9 bytes without words", 5, 9, { 0, 0, 0, 0, 9, 0, 0, 0, 0x77 } },
     { "has the filler 6", 6, 9, { 1, 0, 0, 0, 9, 0, 0, 0, 0x76 } },
     { "has the filler 15", 6, 9, { 1, 0, 0, 0, 9, 0, 0, 0, 0x7F } },
-    { "has the filler 0", 6, 9, { 1, 0, 0, 0, 9, 0, 0, 0, 0x70 } }
+    { "has the filler 0", 6, 9, { 1, 0, 0, 0, 9, 0, 0, 0, 0x70 } },
+    { "has a residual byte of 0", 13, 10, { 1, 0, 0, 0, 10, 0, 0, 0, 0x67, 0 } },
+    { "has its last residual padded", 13, 11, { 2, 0, 0, 0, 11, 0, 0, 0, 0x6E, 1, 0 } },
+    { "has its first residual padded", 13, 11, { 2, 0, 0, 0, 11, 0, 0, 0, 0x6E, 0, 1 } },
+    { "has two zero bytes on top by low bits 3", 13, 14, { 1, 0, 0, 0, 14, 0, 0, 0, 0x37, 1, 1, 1, 0, 0 } }
 };
 
 /* The block is not passed by: good ones follow, and are left over with it. Every second time there is room for them. */
@@ -678,16 +690,30 @@ static void add_damaged_block(void)
     }
 }
 
-/* Whether it is a block, and whole for certain. */
-static bool add_anything(void)
+static void add_padded_block(void)
 {
-    size_t kind = random_below(16);
+    static uint8_t block[WORST(9)];
+    add_bytes(block, forge_padded_block(block, 1 + random_below(9)));
+}
+
+static void add_whole_block(void)
+{
+    size_t kind = random_below(13);
     if (kind < 7) {
         add_good_block();
     } else if (kind < 11) {
         add_packed_block();
-    } else if (kind < 13) {
+    } else {
         add_bytes(no_words, sizeof no_words);
+    }
+}
+
+/* Whether it is a block, and whole for certain. */
+static bool add_anything(void)
+{
+    size_t kind = random_below(16);
+    if (kind < 13) {
+        add_whole_block();
     } else if (kind < 14) {
         add_damaged_block();
     } else if (kind < 15) {
@@ -720,6 +746,23 @@ static void row_of_anything(unsigned round)
     must_hold(!all_are_blocks || kept + is_cut == pieces, "a block that is cut is not kept, nor fewer than 8 bytes");
 }
 
+/* Whole blocks, a padded one, and anything behind it. */
+static void row_with_a_padded_block(unsigned round)
+{
+    size_t before = random_below(5);
+    old_len = 0;
+    for (size_t i = 0; i < before; i++) {
+        add_whole_block();
+    }
+    size_t start = old_len;
+    add_padded_block();
+    for (size_t more = random_below(4); more > 0; more--) {
+        add_anything();
+    }
+    this_case_is("%zu blocks and a padded one, %zu bytes, round %u", before, old_len, round);
+    ends_at(before, start);
+}
+
 void group_salvage(unsigned rounds)
 {
     for (unsigned round = 0; round < rounds; round++) {
@@ -742,5 +785,8 @@ void group_salvage(unsigned rounds)
     every_room_and_order();
     for (unsigned round = 0; round < 1000 * rounds; round++) {
         row_of_anything(round);
+    }
+    for (unsigned round = 0; round < 100 * rounds; round++) {
+        row_with_a_padded_block(round);
     }
 }

@@ -47,12 +47,12 @@ static void is(const char *what, uint64_t value, uint64_t expected)
 
 static void numbers_and_limits(void)
 {
-    const uint32_t in_order[13] = {
+    const uint32_t in_order[14] = {
         COIL_DONE, COIL_BAD_TABLES, COIL_TOO_MANY_WORDS, COIL_NO_ROOM, COIL_TOO_SHORT,
         COIL_BAD_BLOCK_LENGTH, COIL_BAD_FILLER, COIL_BAD_TRAILER, COIL_WRONG_EXAM, COIL_BAD_DIRECTORY,
-        COIL_NO_SUCH_SLOT, COIL_SLOT_NOT_ABOVE, COIL_FILE_FULL
+        COIL_NO_SUCH_SLOT, COIL_SLOT_NOT_ABOVE, COIL_FILE_FULL, COIL_PADDED
     };
-    for (uint32_t number = 0; number < 13; number++) {
+    for (uint32_t number = 0; number < 14; number++) {
         is("number", in_order[number], number);
     }
     is("number of a bad record", COIL_BAD_RECORD, 15);
@@ -127,6 +127,18 @@ static void every_call_once(void)
     is("one word", 10 * back[0] + count, 11);
 }
 
+/* The word 0 as no packer writes it: by a code that has a byte, and with the byte 0. */
+static void a_padded_block(void)
+{
+    const uint8_t block[10] = { 1, 0, 0, 0, 10, 0, 0, 0, 0x67, 0 };
+    uint64_t back[1] = { 5 };
+    size_t count = 9;
+
+    is("check what is padded", check(block, sizeof block), COIL_PADDED);
+    is("unpack what is padded", unpack(block, sizeof block, fcm, 8, dfcm, 8, back, 1, &count), COIL_PADDED);
+    is("nothing answered", 10 * back[0] + count, 50);
+}
+
 /* To the file that every_call_once left: the second record is refused, mended, and gone on with. */
 static void a_list(void)
 {
@@ -175,6 +187,7 @@ int main(void)
     numbers_and_limits();
     layout_of_a_record();
     every_call_once();
+    a_padded_block();
     a_list();
     a_salvage();
     printf("%u passed, %u failed\n", passed, failed);

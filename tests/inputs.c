@@ -36,35 +36,173 @@ void every_kind_and_t(const char *title, unsigned rounds, uint64_t *words, size_
     }
 }
 
-size_t forge_block(uint8_t *block, size_t count)
+/* ---- Codes and residuals ---- */
+
+const unsigned residual_width[8] = { 8, 7, 6, 5, 3, 2, 1, 0 };
+
+static bool has_room(unsigned low_bits, uint64_t residual)
 {
-    static const size_t written[8] = { 8, 7, 6, 5, 3, 2, 1, 0 };
-    size_t length = 8 + (count + 1) / 2;
-    for (size_t i = 0; i < count; i++) {
-        unsigned code = (unsigned)random_below(16);
-        if (i % 2 == 0) {
-            block[8 + i / 2] = (uint8_t)(16 * code + 7);
-        } else {
-            block[8 + i / 2] = (uint8_t)(block[8 + i / 2] - 7 + code);
+    return residual_width[low_bits] == 8 || residual >> (8 * residual_width[low_bits]) == 0;
+}
+
+/* The low bits of the code that writes fewest bytes. */
+static unsigned tightest(uint64_t residual)
+{
+    unsigned best = 0;
+    for (unsigned low_bits = 0; low_bits < 8; low_bits++) {
+        if (has_room(low_bits, residual) && residual_width[low_bits] < residual_width[best]) {
+            best = low_bits;
         }
-        random_bytes(block + length, written[code % 8]);
-        length += written[code % 8];
     }
+    return best;
+}
+
+unsigned fewest_bytes(uint64_t residual)
+{
+    return residual_width[tightest(residual)];
+}
+
+unsigned code_at(const uint8_t *block, size_t index)
+{
+    return block[8 + index / 2] >> (index % 2 == 0 ? 4 : 0) & 15;
+}
+
+/* Codes are put in their order: the first of a byte puts the filler beside it, and the second takes its place. */
+static void put_code(uint8_t *block, size_t index, unsigned code)
+{
+    uint8_t *pair = block + 8 + index / 2;
+    *pair = (uint8_t)(index % 2 == 0 ? 16 * code + 7 : *pair / 16 * 16 + code);
+}
+
+static size_t put_head(uint8_t *block, size_t count, size_t length)
+{
     put_field(block, 4, count);
     put_field(block + 4, 4, length);
     return length;
 }
 
-void every_forged_block(const char *title, unsigned rounds, uint8_t *block, try_forged *try)
+size_t residual_at(const uint8_t *block, size_t index)
+{
+    size_t at = 8 + (get_field(block, 4) + 1) / 2;
+    for (size_t i = 0; i < index; i++) {
+        at += residual_width[code_at(block, i) % 8];
+    }
+    return at;
+}
+
+bool has_padding(const uint8_t *block)
+{
+    size_t at = residual_at(block, 0), count = get_field(block, 4);
+    for (size_t i = 0; i < count; i++) {
+        unsigned written = residual_width[code_at(block, i) % 8];
+        if (fewest_bytes(get_field(block + at, written)) < written) {
+            return true;
+        }
+        at += written;
+    }
+    return false;
+}
+
+size_t tighten(uint8_t *to, const uint8_t *block)
+{
+    size_t count = get_field(block, 4), from = residual_at(block, 0), length = from;
+    for (size_t i = 0; i < count; i++) {
+        unsigned code = code_at(block, i), written = residual_width[code % 8];
+        uint64_t residual = get_field(block + from, written);
+        unsigned low_bits = tightest(residual);
+        put_code(to, i, code / 8 * 8 + low_bits);
+        put_field(to + length, residual_width[low_bits], residual);
+        from += written;
+        length += residual_width[low_bits];
+    }
+    return put_head(to, count, length);
+}
+
+/* ---- Forged blocks ---- */
+
+/* With low bits 3 the top byte is 0 now and then: four zero bytes have no code of their own. */
+static void forge_residual(uint8_t *at, unsigned low_bits)
+{
+    unsigned written = residual_width[low_bits];
+    do {
+        random_bytes(at, written);
+        if (low_bits == 3 && random_below(3) == 0) {
+            at[written - 1] = 0;
+        }
+    } while (fewest_bytes(get_field(at, written)) < written);
+}
+
+size_t forge_block_of(uint8_t *block, const uint8_t *codes, size_t count)
+{
+    size_t length = 8 + (count + 1) / 2;
+    for (size_t i = 0; i < count; i++) {
+        put_code(block, i, codes[i]);
+        forge_residual(block + length, codes[i] % 8);
+        length += residual_width[codes[i] % 8];
+    }
+    return put_head(block, count, length);
+}
+
+size_t forge_block(uint8_t *block, size_t count)
+{
+    static uint8_t codes[65536];
+    for (size_t i = 0; i < count; i++) {
+        codes[i] = (uint8_t)random_below(16);
+    }
+    return forge_block_of(block, codes, count);
+}
+
+bool pad_residual(uint8_t *block, size_t index)
+{
+    unsigned low_bits = code_at(block, index) % 8;
+    size_t end = residual_at(block, index) + residual_width[low_bits];
+    if (low_bits == 7) {
+        return false;
+    }
+    block[end - 1] = 0;
+    if (low_bits == 3) {
+        block[end - 2] = 0;
+    }
+    return true;
+}
+
+size_t forge_padded_block(uint8_t *block, size_t count)
+{
+    size_t length = 0, padded = 0;
+    while (padded == 0) {
+        length = forge_block(block, count);
+        for (size_t tries = 1 + random_below(3); tries > 0; tries--) {
+            padded += pad_residual(block, random_below(count));
+        }
+    }
+    return length;
+}
+
+typedef size_t forge_call(uint8_t *block, size_t count);
+
+static void every_block_of(forge_call *forge, size_t least, const char *title, unsigned rounds, uint8_t *block,
+                           try_forged *try)
 {
     for (unsigned round = 0; round < 60 * rounds; round++) {
-        size_t count = random_below(2) ? random_below(10) : random_below(200);
+        size_t count = least + (random_below(2) ? random_below(10) : random_below(200 - least));
         uint32_t t = (uint32_t)(round % 17);
-        size_t length = forge_block(block, count);
+        size_t length = forge(block, count);
         this_case_is("%s, t = %u, %zu words, round %u", title, t, count, round);
         try(length, count, t);
     }
 }
+
+void every_forged_block(const char *title, unsigned rounds, uint8_t *block, try_forged *try)
+{
+    every_block_of(forge_block, 0, title, rounds, block, try);
+}
+
+void every_padded_block(const char *title, unsigned rounds, uint8_t *block, try_forged *try)
+{
+    every_block_of(forge_padded_block, 1, title, rounds, block, try);
+}
+
+/* ---- Files ---- */
 
 static void write_trailer(exam_file *f)
 {

@@ -26,12 +26,38 @@ uint64_t get_field(const uint8_t *at, unsigned bytes);
 typedef void try_words(size_t count, uint32_t t, unsigned round);
 void every_kind_and_t(const char *title, unsigned rounds, uint64_t *words, size_t most, try_words *try);
 
-/* A block of random codes and random residual bytes, well formed. Answers its length. */
+/* Residual bytes, by the low three bits of a code. */
+extern const unsigned residual_width[8];
+
+/* The fewest bytes that any code writes for a residual. Each code is tried: nothing here counts zero bytes. */
+unsigned fewest_bytes(uint64_t residual);
+
+/* Of a block that is well formed: the code of a word, and where its residual starts. */
+unsigned code_at(const uint8_t *block, size_t index);
+size_t residual_at(const uint8_t *block, size_t index);
+
+/* Whether some residual takes more bytes than another code would: what 13 refuses of a block that is well formed. */
+bool has_padding(const uint8_t *block);
+
+/* Writes a block anew, each residual with as few bytes as any code does, by the predictor that was named. So it reads
+ * as the words that the block would give if nothing of it were refused. Answers its length. */
+size_t tighten(uint8_t *to, const uint8_t *block);
+
+/* A block of these codes, or of random ones, and of random residual bytes, with no residual padded. At most 65,536
+ * words. Answers its length. */
+size_t forge_block_of(uint8_t *block, const uint8_t *codes, size_t count);
 size_t forge_block(uint8_t *block, size_t count);
 
-/* Such blocks with every t, at most 200 words each: made and then tried. */
+/* Makes the top byte of a residual 0; with low bits 3, its two top bytes. Answers false where the word has none. */
+bool pad_residual(uint8_t *block, size_t index);
+
+/* A block of random codes and bytes with one to three residuals padded. It needs a word. */
+size_t forge_padded_block(uint8_t *block, size_t count);
+
+/* Blocks without padding and with some, with every t, at most 200 words each: made and then tried. */
 typedef void try_forged(size_t length, size_t count, uint32_t t);
 void every_forged_block(const char *title, unsigned rounds, uint8_t *block, try_forged *try);
+void every_padded_block(const char *title, unsigned rounds, uint8_t *block, try_forged *try);
 
 typedef struct {
     uint8_t *bytes;

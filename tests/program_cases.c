@@ -147,10 +147,11 @@ static size_t append(size_t length, uint64_t exam, uint32_t t, uint32_t slot, in
     return length;
 }
 
-/* A file of one slot that has exactly 65,536 bytes: 7,704 codes 0, each with eight residual bytes. */
+/* A file of one slot that has exactly 65,536 bytes: 7,704 codes 0, each with eight residual bytes, of which the top one
+ * is not 0. */
 static size_t longest_file(void)
 {
-    enum { COUNT = 7704, LENGTH = 8 + COUNT / 2 + 8 * COUNT };
+    enum { COUNT = 7704, RESIDUALS = 8 + COUNT / 2, LENGTH = RESIDUALS + 8 * COUNT };
     static const uint8_t head[8] = { COUNT % 256, COUNT / 256, 0, 0, LENGTH % 256, LENGTH / 256, 0, 0 };
     size_t length = create(5, 16);
     length = append(length, 5, 16, 9, NOISE, 1);
@@ -159,6 +160,8 @@ static size_t longest_file(void)
     random_bytes(file, LENGTH);
     memcpy(file, head, 8);
     memset(file + 8, 0, COUNT / 2);
+    for (size_t top = RESIDUALS + 7; top < LENGTH; top += 8)
+        file[top] |= 1;
     entry_and_trailer[8] = LENGTH % 256;
     entry_and_trailer[9] = LENGTH / 256;
     memset(entry_and_trailer + ENTRY + 24, 0, 8);
@@ -229,6 +232,56 @@ static void lister_damage_cases(void)
     lister_case("lister-exam-0", file, length);
 }
 
+/* The numbers are those of the rules: where the reference answers another, no case is written. */
+static void lister_answers(const char *name, const uint8_t *in, size_t in_len, uint32_t number)
+{
+    if (lister_number(in, in_len) != number)
+        fail("a case with a padded block is answered by another number");
+    lister_case(name, in, in_len);
+}
+
+enum { BLOCK = 14, BLOCKS = 3, FILLED = BLOCKS * (BLOCK + ENTRY) + TRAILER };
+
+/* Three blocks of the word 80000000, with the code 3 and the residual 00 00 00 80 00: one byte of 0 on top is right. */
+static void three_blocks(void)
+{
+    size_t length = create(7, 10);
+    const uint64_t word = 0x80000000;
+    for (uint32_t slot = 0; slot < BLOCKS; slot++)
+        if (ref_append(file, ROOM, length, 7, slot, &word, 1, fcm, TABLE_WORDS, dfcm, TABLE_WORDS, bench, ROOM,
+                       &length) != 0)
+            fail("the reference refuses to append");
+    if (length != FILLED)
+        fail("the file of three blocks has another length");
+}
+
+/* The lister checks all blocks, in their order in the file: the first that is wrong gives the number. */
+static void lister_padded_cases(void)
+{
+    char name[64];
+    three_blocks();
+    lister_answers("lister-padded-none", file, FILLED, 0);
+    for (size_t i = 0; i < BLOCKS; i++) {
+        three_blocks();
+        file[BLOCK * i + 12] = 0;
+        snprintf(name, sizeof name, "lister-padded-%zu", i);
+        lister_answers(name, file, FILLED, 13);
+        file[BLOCK * i + 8] = 0x36;
+        snprintf(name, sizeof name, "lister-padded-%zu-filler", i);
+        lister_answers(name, file, FILLED, 6);
+    }
+    three_blocks();
+    file[12] = 0;
+    file[BLOCK + 8] = 0x36;
+    lister_answers("lister-padded-before-6", file, FILLED, 13);
+    file[8] = 0x36;
+    file[BLOCK + 8] = 0x37;
+    file[BLOCK + 12] = 0;
+    lister_answers("lister-padded-behind-6", file, FILLED, 6);
+    file[8] = 0x27;
+    lister_answers("lister-padded-behind-5", file, FILLED, 5);
+}
+
 int main(int argc, char **argv)
 {
     if (argc != 2) {
@@ -242,6 +295,7 @@ int main(int argc, char **argv)
     lister_table_cases();
     lister_many_slots();
     lister_damage_cases();
+    lister_padded_cases();
     printf("%zu cases\n", cases);
     return 0;
 }

@@ -181,6 +181,34 @@ static uint32_t refuse_tables(size_t fcm_len, size_t dfcm_len)
     return 1;
 }
 
+/* Request L6, of one code and the bytes written for it: the top residual byte is 0; for low bits 3 the two top bytes
+ * are. Residual bytes go low byte first, so the top one is the last. Low bits 7 have none. */
+static int is_padded(unsigned low_bits, const uint8_t *residual)
+{
+    unsigned written = bytes_written[low_bits];
+    if (low_bits == 7) {
+        return 0;
+    }
+    if (low_bits == 3) {
+        return residual[written - 1] == 0 && residual[written - 2] == 0;
+    }
+    return residual[written - 1] == 0;
+}
+
+/* Code by code, from the first residual byte on. The filler is no code. */
+static int has_padded_residual(const uint8_t *block, uint64_t count)
+{
+    uint64_t at = BLOCK_HEADER + code_bytes(count);
+    for (uint64_t i = 0; i < count; i++) {
+        unsigned low_bits = read_code(block, i) % 8;
+        if (is_padded(low_bits, block + at)) {
+            return 1;
+        }
+        at += bytes_written[low_bits];
+    }
+    return 0;
+}
+
 static uint32_t refuse_block(const uint8_t *block, size_t block_len, uint64_t *count)
 {
     if (block_len < BLOCK_HEADER) {
@@ -205,6 +233,9 @@ static uint32_t refuse_block(const uint8_t *block, size_t block_len, uint64_t *c
     }
     if (declared % 2 == 1 && read_code(block, declared) != FILLER) {
         return 6;
+    }
+    if (has_padded_residual(block, declared)) {
+        return 13;
     }
     *count = declared;
     return 0;

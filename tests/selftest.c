@@ -99,16 +99,43 @@ static void worked_refusals(void)
     checks_to("01 00 00 00 09 00 00 00 76", 6);
     checks_to("01 00 00 00 09 00 00 00 67", 5);
     checks_to("01 00 00 00 09 00 00 00 66", 5);
-    checks_to("01 00 00 00 0A 00 00 00 67 00", 0);
     checks_to("01 00 00 00 0A 00 00", 4);
     checks_to("01 00 01 00 0A 00 00 00 67 00", 2);
+}
+
+/* One word by each code that has residual bytes: with a top byte of 1, and of 0. Low bits 3 stand for three zero bytes
+ * or four, so that there one 0 on top is right. */
+static void worked_padding(void)
+{
+    checks_to("01 00 00 00 11 00 00 00 07 FF FF FF FF FF FF FF 01", 0);
+    checks_to("01 00 00 00 11 00 00 00 07 FF FF FF FF FF FF FF 00", 13);
+    checks_to("01 00 00 00 10 00 00 00 17 FF FF FF FF FF FF 01", 0);
+    checks_to("01 00 00 00 10 00 00 00 17 FF FF FF FF FF FF 00", 13);
+    checks_to("01 00 00 00 0F 00 00 00 27 FF FF FF FF FF 01", 0);
+    checks_to("01 00 00 00 0F 00 00 00 27 FF FF FF FF FF 00", 13);
+    checks_to("01 00 00 00 0E 00 00 00 37 FF FF FF 00 01", 0);
+    checks_to("01 00 00 00 0E 00 00 00 37 FF FF FF 01 00", 0);
+    checks_to("01 00 00 00 0E 00 00 00 37 FF FF FF 00 00", 13);
+    checks_to("01 00 00 00 0C 00 00 00 47 FF FF 01", 0);
+    checks_to("01 00 00 00 0C 00 00 00 47 FF FF 00", 13);
+    checks_to("01 00 00 00 0B 00 00 00 57 FF 01", 0);
+    checks_to("01 00 00 00 0B 00 00 00 57 FF 00", 13);
+    checks_to("01 00 00 00 0A 00 00 00 67 01", 0);
+    checks_to("01 00 00 00 0A 00 00 00 67 00", 13);
+    checks_to("01 00 00 00 0A 00 00 00 E7 00", 13);
+    checks_to("02 00 00 00 0B 00 00 00 66 01 00", 13);
+    checks_to("01 00 00 00 0A 00 00 00 66 00", 6);
+    checks_to("01 00 00 00 0B 00 00 00 67 00 00", 5);
 
     uint8_t bytes[16];
     uint64_t word = 9;
-    size_t count = 0;
+    size_t count = 9;
     size_t length = from_hex("01 00 00 00 0A 00 00 00 67 00", bytes);
-    uint32_t answer = ref_unpack(bytes, length, fcm, 1, dfcm, 1, &word, 1, &count);
-    holds(answer == 0 && count == 1 && word == 0, "a block we do not write gives word 0");
+    fcm[0] = dfcm[0] = 9;
+    uint32_t answer = ref_unpack(bytes, length, fcm, 1, dfcm, 1, &word, 0, &count);
+    holds(answer == 13 && count == 0, "a padded residual is refused, before too little room");
+    holds(word == 9 && fcm[0] == 9 && dfcm[0] == 9, "and nothing is changed");
+    holds(ref_unpack(bytes, length, fcm, 1, dfcm, 2, &word, 1, &count) == 1, "tables that differ come first");
 }
 
 /* One word with each number of leading zero bytes. The first prediction is 0, so the residual is the
@@ -301,7 +328,8 @@ static void salvage_is_refused(uint64_t exam, uint32_t t, size_t room, uint32_t 
     holds(file[0] == 0xEE && file[52] == 0xEE, "a refused salvage writes nothing");
 }
 
-/* The file of 53 bytes, whole and cut; a wrong filler between two whole blocks; the blocks of 11 and 9 bytes. */
+/* The file of 53 bytes, whole and cut; a wrong filler, and a padded residual, between two whole blocks; the blocks of
+ * 11 and 9 bytes. */
 static void worked_salvages(void)
 {
     const char *of_zero = "01 00 00 00 09 00 00 00 77 00 00 00 00 00 00 00 00 09 00 00 00 "
@@ -315,6 +343,8 @@ static void worked_salvages(void)
     salvage_gives("", 0, 0, empty);
     salvage_gives(empty, 0, 32, empty);
     salvage_gives("01 00 00 00 09 00 00 00 77 01 00 00 00 09 00 00 00 76 01 00 00 00 09 00 00 00 77", 1, 18, of_zero);
+    salvage_gives("01 00 00 00 09 00 00 00 77 01 00 00 00 0A 00 00 00 67 00 01 00 00 00 09 00 00 00 77", 1, 19,
+                  of_zero);
     salvage_gives("03 00 00 00 0B 00 00 00 6F F7 01 01 00 00 00 09 00 00 00 77 01", 2, 1,
                   "03 00 00 00 0B 00 00 00 6F F7 01 01 00 00 00 09 00 00 00 77 "
                   "00 00 00 00 00 00 00 00 0B 00 00 00 01 00 00 00 0B 00 00 00 09 00 00 00 "
@@ -388,6 +418,7 @@ int main(void)
     worked_blocks();
     worked_before();
     worked_refusals();
+    worked_padding();
     table_of_codes();
     worked_hashes();
     worked_files();

@@ -4,8 +4,8 @@
 # begins with "both:", the reference that the library is compared with makes the slip too.
 # shellcheck shell=bash disable=SC2016
 
-# The slip made by the library alone, and by both sides: the tests hold a list against appends one after another, too,
-# and a salvage against the blocks that they put into the old bytes.
+# The slip made by the library alone, and by both sides: the tests hold a list against appends one after another, too, a
+# salvage against the blocks that they put into the old bytes, and know which residuals they padded.
 slip_of_one_and_both() {
     slip "$1" "$2" "$3"
     slip "both: $1" "$2" "$3"
@@ -120,6 +120,141 @@ slip "slice length cut to 32 bits" 'if (read_field(block + 4, 4) != block_len) {
 slip "bytes behind the residuals accepted" 'if (expected != block_len) {' 'if (expected > block_len) {'
 slip "missing residual bytes accepted" 'if (expected != block_len) {' 'if (expected < block_len) {'
 slip "codes beyond the slice read" 'if (expected > block_len) {' 'if (0) {'
+
+# ---- Padded residuals: which are refused
+slip_of_one_and_both "padded: never refused" 'if (has_padded_residual(block, declared)) {' 'if (0) {'
+slip_of_one_and_both "padded: low bits 3 refused at one zero byte" \
+    'return residual[written - 1] == 0 && residual[written - 2] == 0;' 'return residual[4] == 0;'
+slip_of_one_and_both "padded: low bits 3 never refused" \
+    'return residual[written - 1] == 0 && residual[written - 2] == 0;' 'return 0;'
+slip_of_one_and_both "padded: low bits 3 by either of the two bytes" \
+    'residual[written - 1] == 0 && residual' 'residual[written - 1] == 0 || residual'
+slip "padded: low bits 3 by the second byte alone" \
+    'return residual[written - 1] == 0 && residual[written - 2] == 0;' 'return residual[3] == 0;'
+slip "padded: low bits 3 from three zero bytes on" 'residual[written - 2] == 0;' \
+    'residual[written - 2] == 0 && residual[written - 3] == 0;'
+slip "padded: low bits 4 for four zero bytes" 'if (low_bits == 3) {' 'if (low_bits == 4) {'
+slip "padded: two zero bytes asked for wherever there are two" 'if (low_bits == 3) {' 'if (written > 1) {'
+slip_of_one_and_both "padded: low bits 7 looked at too" 'if (low_bits == 7) {
+        return 0;' 'if (low_bits == 7) {
+        return residual[-1] == 0;'
+slip "padded: low bits 6 not looked at" 'if (low_bits == 7) {' 'if (low_bits >= 6) {'
+slip "padded: low bits 0 not looked at" 'if (low_bits == 7) {' 'if (low_bits == 7 || low_bits == 0) {'
+slip_of_one_and_both "padded: the lowest byte in place of the top one" 'return residual[written - 1] == 0;' \
+    'return residual[0] == 0;'
+slip "padded: any byte of 0" 'return residual[written - 1] == 0;' 'return memchr(residual, 0, written) != NULL;'
+slip_of_one_and_both "padded: only the residual 0" 'return residual[written - 1] == 0;' \
+    'return read_field(residual, written) == 0;'
+slip "padded: the residual 0 accepted" 'return residual[written - 1] == 0;' \
+    'return residual[written - 1] == 0 && read_field(residual, written) != 0;'
+slip "padded: a zero bit on top refused" 'return residual[written - 1] == 0;' 'return residual[written - 1] < 128;'
+
+# ---- Padded residuals: the walk over the codes
+slip_of_one_and_both "padded: the second code of a pair skipped" 'if (is_padded(low_bits, block + at)) {' \
+    'if (i % 2 == 0 && is_padded(low_bits, block + at)) {'
+slip "padded: the first code of a pair skipped" 'if (is_padded(low_bits, block + at)) {' \
+    'if (i % 2 == 1 && is_padded(low_bits, block + at)) {'
+slip_of_one_and_both "padded: the last code of an odd count skipped" 'if (is_padded(low_bits, block + at)) {' \
+    'if ((i + 1 < count || count % 2 == 0) && is_padded(low_bits, block + at)) {'
+slip "padded: the last code of an even count skipped" 'if (is_padded(low_bits, block + at)) {' \
+    'if ((i + 1 < count || count % 2 == 1) && is_padded(low_bits, block + at)) {'
+slip_of_one_and_both "padded: only the first code tested" 'if (is_padded(low_bits, block + at)) {' \
+    'if (i == 0 && is_padded(low_bits, block + at)) {'
+slip "padded: only the last code tested" 'if (is_padded(low_bits, block + at)) {' \
+    'if (i + 1 == count && is_padded(low_bits, block + at)) {'
+slip_of_one_and_both "padded: dfcm codes not tested" 'if (is_padded(low_bits, block + at)) {' \
+    'if (read_code(block, i) < DFCM_BIT && is_padded(low_bits, block + at)) {'
+slip "padded: fcm codes not tested" 'if (is_padded(low_bits, block + at)) {' \
+    'if (read_code(block, i) >= DFCM_BIT && is_padded(low_bits, block + at)) {'
+slip "padded: the walk ends at a code without a byte" 'if (is_padded(low_bits, block + at)) {' \
+    'if (low_bits == 7) { return 0; }
+        if (is_padded(low_bits, block + at)) {'
+slip "padded: the walk stays at the first residual" 'at += bytes_written[low_bits];
+    }
+    return 0;' '}
+    return 0;'
+slip "padded: the walk begins at the filler's byte" 'uint64_t at = BLOCK_HEADER + code_bytes(count);
+    for (uint64_t i = 0; i < count; i++) {
+        unsigned low_bits' 'uint64_t at = BLOCK_HEADER + count / 2;
+    for (uint64_t i = 0; i < count; i++) {
+        unsigned low_bits'
+slip_of_one_and_both "padded: the filler taken as a code" 'at += bytes_written[low_bits];
+    }
+    return 0;' 'at += bytes_written[low_bits];
+    }
+    return count % 2 == 1 && block[at - 1] == 0;'
+slip_of_one_and_both "padded: count cut to 16 bits" 'for (uint64_t i = 0; i < count; i++) {
+        unsigned low_bits' 'for (uint64_t i = 0; i < (uint16_t)count; i++) {
+        unsigned low_bits'
+
+# ---- Padded residuals: the number, its place among the others, and what it leaves
+slip "padded: answered as 5" 'return 13;' 'return 5;'
+slip "padded: answered as 6" 'return 13;' 'return 6;'
+slip_of_one_and_both "padded: 13 before 6" 'if (declared % 2 == 1 && read_code(block, declared) != FILLER) {' \
+    'if (has_padded_residual(block, declared)) { return 13; }
+    if (declared % 2 == 1 && read_code(block, declared) != FILLER) {'
+slip_of_one_and_both "padded: 13 before 5, where bytes follow the residuals" 'if (expected != block_len) {' \
+    'if (expected < block_len && has_padded_residual(block, declared)) { return 13; }
+    if (expected != block_len) {'
+slip_of_one_and_both "padded: 3 before 13" 'uint32_t refusal = refuse_block(block, block_len, &declared);' \
+    'uint32_t refusal = refuse_block(block, block_len, &declared);
+    if (refusal == 13 && words_len < read_field(block, 4)) { return 3; }'
+slip_of_one_and_both "padded: 13 before 1" '*count = 0;
+    if (refuse_tables' '*count = 0;
+    if (ref_check(block, block_len) == 13) { return 13; }
+    if (refuse_tables'
+slip "padded: 13 before the tables of a file" 'if (refuse_file_tables(&f, fcm_len, dfcm_len)) {' \
+    'if (ref_check(file + entry_offset(file, &f, index), entry_length(file, &f, index)) == 13) { return 13; }
+    if (refuse_file_tables(&f, fcm_len, dfcm_len)) {'
+slip "padded: unpack does not ask" 'uint32_t refusal = refuse_block(block, block_len, &declared);' \
+    'uint32_t refusal = refuse_block(block, block_len, &declared);
+    if (refusal == 13) { refusal = 0; declared = read_field(block, 4); }'
+slip "padded: check does not ask" 'uint64_t count;
+    return refuse_block(block, block_len, &count);' 'uint64_t count;
+    return refuse_block(block, block_len, &count) % 13;'
+slip "padded: a table is cleared" 'uint32_t refusal = refuse_block(block, block_len, &declared);' \
+    'uint32_t refusal = refuse_block(block, block_len, &declared);
+    if (refusal == 13) { dfcm[fcm_len - 1] = 0; }'
+slip "padded: the first word is written" 'uint32_t refusal = refuse_block(block, block_len, &declared);' \
+    'uint32_t refusal = refuse_block(block, block_len, &declared);
+    if (refusal == 13 && words_len > 0) { words[0] = 0; }'
+slip "padded: the count is answered" 'uint32_t refusal = refuse_block(block, block_len, &declared);' \
+    'uint32_t refusal = refuse_block(block, block_len, &declared);
+    if (refusal == 13) { *count = read_field(block, 4); }'
+
+# ---- Padded residuals: files
+slip "padded: opening looks at the blocks" 'if (!directory_is_right(file, f)) {
+        return 9;
+    }' 'if (!directory_is_right(file, f)) {
+        return 9;
+    }
+    for (uint64_t i = 0; i < f->entries; i++) {
+        if (ref_check(file + entry_offset(file, f, i), entry_length(file, f, i)) == 13) { return 13; }
+    }'
+slip "padded: finding looks at the block" '*offset = entry_offset(file, &f, index);' \
+    'if (ref_check(file + entry_offset(file, &f, index), entry_length(file, &f, index)) == 13) { return 13; }
+    *offset = entry_offset(file, &f, index);'
+slip "padded: such a block is not replaced" 'refusal = refuse_replace(&found' \
+    'if (ref_check(file + entry_offset(file, &found, index), entry_length(file, &found, index)) == 13) { return 13; }
+    refusal = refuse_replace(&found'
+slip "padded: nothing is appended behind such a block" 'refusal = refuse_append(file' \
+    'if (f.entries > 0 && ref_check(file + entry_offset(file, &f, f.entries - 1),
+            entry_length(file, &f, f.entries - 1)) == 13) { return 13; }
+    refusal = refuse_append(file'
+slip_of_one_and_both "salvage: a padded block is kept" 'if (refuse_block(bytes, stated, &count)) {' \
+    'if (refuse_block(bytes, stated, &count) % 13) {'
+slip_of_one_and_both "salvage: a padded block is passed by" 'row_of_blocks row = whole_blocks(old, old_len);' \
+    'uint8_t *taken = room_for(old_len);
+    size_t at = 0, end = 0;
+    while (old_len - at >= BLOCK_HEADER) {
+        uint64_t stated = read_field(old + at + 4, 4);
+        uint32_t number = stated > old_len - at ? 5 : ref_check(old + at, stated);
+        if (number == 0) { memcpy(taken + end, old + at, stated); end += stated; }
+        else if (number != 13) { break; }
+        at += stated;
+    }
+    old = taken;
+    row_of_blocks row = whole_blocks(taken, end);'
 
 # ---- Rooms and numbers of the block calls
 slip "pack: 65,536 words refused" 'if (words_len > MOST_WORDS) {
@@ -808,7 +943,9 @@ slip "salvage: file limit by the old bytes" 'refuse_salvage(new_exam, new_t, nee
     'refuse_salvage(new_exam, new_t, needed, file_len);
     if (!refusal && old_len + ENTRY * row.blocks + TRAILER > MOST_FILE_BYTES) { return 3; }'
 
-# ---- Slips of both sides: a packer whose blocks come back, and are longer than they need be
+# ---- Slips of both sides: a packer whose blocks are longer than they need be. By the first two all words come back. By
+# the last the blocks are padded, and refused
 slip "both: the residual that the rule leaves is taken" 'int dfcm_is_chosen = dfcm_chosen(' \
     'int dfcm_is_chosen = !dfcm_chosen('
+slip "both: dfcm is left out" 'int dfcm_is_chosen = dfcm_chosen(' 'int dfcm_is_chosen = 0 * dfcm_chosen('
 slip "both: a zero byte given away" '{ 0, 1, 2, 3, 3, 4, 5, 6, 7 }' '{ 0, 0, 1, 2, 3, 4, 5, 6, 7 }'

@@ -120,7 +120,7 @@ static void check_bytes(const uint8_t *block, size_t length)
 
 static void check(const char *hex)
 {
-    uint8_t block[16] = { 0 };
+    uint8_t block[32] = { 0 };
     size_t length = from_hex(hex, block);
     check_bytes(block, length);
 }
@@ -328,20 +328,71 @@ static void blocks_worked_by_hand(void)
     pack(equal, 3, 64, 64);
 }
 
-/* The ten bytes of word 1 with the last byte 00. No packer writes them; they are accepted and give word 0. Then the
- * words 1, 3: as they were packed before request L2, when whole zero bytes were compared, and as they are packed. */
+/* The words 1, 3: as packed before request L2, when whole zero bytes were compared, and as they are packed. Then low
+ * bits 3: four zero bytes, of which one is written, on top; three zero bytes, and the byte below the top is 0; and the
+ * codes 7 and F, which have no byte, behind that top byte of 0. */
 static void only_read(void)
 {
-    const char *ten = "01 00 00 00 0a 00 00 00 67 00";
+    const char *four = "01 00 00 00 0e 00 00 00 37 00 00 00 80 00";
+    const char *three = "01 00 00 00 0e 00 00 00 37 00 00 00 00 80";
     const char *by_bytes = "02 00 00 00 0b 00 00 00 66 01 02", *by_bits = "02 00 00 00 0b 00 00 00 6e 01 01";
     printf("Blocks that are read, whoever packed them\n");
     fill_tables(0x1234, 0x5678);
-    check(ten);
-    unpack(ten, 1, 1, 2);
     check(by_bytes);
     unpack(by_bytes, 1, 1, 2);
     check(by_bits);
     unpack(by_bits, 1, 1, 2);
+    check(four);
+    unpack(four, 1, 1, 2);
+    check(three);
+    unpack(three, 1, 1, 2);
+    unpack("02 00 00 00 0e 00 00 00 37 00 00 00 80 00", 1, 1, 2);
+    unpack("02 00 00 00 0e 00 00 00 3f 00 00 00 80 00", 1, 1, 2);
+}
+
+/* A top byte of 0 by each code that has one: by low bits 3 it takes two. By the code of dfcm; as the first and as the
+ * second of two words, and as the last of three. Then the wrong filler and the wrong length, which come before. */
+static void padded(void)
+{
+    printf("Padded residuals\n");
+    check("01 00 00 00 0a 00 00 00 67 00");
+    check("01 00 00 00 0b 00 00 00 57 01 00");
+    check("01 00 00 00 0b 00 00 00 57 00 01");
+    check("01 00 00 00 0c 00 00 00 47 01 01 00");
+    check("01 00 00 00 0e 00 00 00 37 01 01 01 01 00");
+    check("01 00 00 00 0e 00 00 00 37 01 01 01 00 00");
+    check("01 00 00 00 0e 00 00 00 37 00 00 00 00 00");
+    check("01 00 00 00 0f 00 00 00 27 01 01 01 01 01 00");
+    check("01 00 00 00 10 00 00 00 17 01 01 01 01 01 01 00");
+    check("01 00 00 00 11 00 00 00 07 01 01 01 01 01 01 01 00");
+    check("01 00 00 00 0a 00 00 00 e7 00");
+    check("02 00 00 00 0b 00 00 00 66 00 02");
+    check("02 00 00 00 0b 00 00 00 66 01 00");
+    check("03 00 00 00 0b 00 00 00 77 67 00");
+    check("01 00 00 00 0a 00 00 00 66 00");
+    check("01 00 00 00 0b 00 00 00 67 00 00");
+}
+
+/* The ten bytes of word 1 with the last byte 00. Tables that differ come before, too little room comes behind; what the
+ * words and the tables held stays. */
+static void padded_and_unpacked(void)
+{
+    const char *ten = "01 00 00 00 0a 00 00 00 67 00";
+    uint8_t block[16] = { 0 };
+    uint64_t words[1] = { 0xEE };
+    size_t length = from_hex(ten, block), count = NOT_ANSWERED;
+    printf("A padded residual unpacked\n");
+    fill_tables(0x1234, 0x5678);
+    unpack(ten, 1, 2, 2);
+    unpack(ten, 1, 1, 2);
+    unpack(ten, 1, 1, 0);
+    uint32_t answer = coil_unpack(block, length, fcm, 1, dfcm, 1, words, 1, &count);
+    printf("left by the answer %u: words", (unsigned)answer);
+    print_words(words, 1);
+    printf(", tables");
+    print_words(fcm, 1);
+    print_words(dfcm, 1);
+    printf(", count %zu\n", count);
 }
 
 /* Tables of no length, of three words, of 131,072 words, and tables that differ; then too many words; then too
@@ -529,6 +580,29 @@ static void refusals_to_fetch(void)
     file[8] = 0x76;
     printf("byte 8 is 118: ");
     fetch(53, 7, 3, 1024, 1024, 8);
+}
+
+/* The residual byte of the one map becomes 0. The file opens, and is found in and appended to. The map alone is
+ * refused, behind a slot that is not there and tables that differ, and before too little room. It can be replaced. */
+static void padded_in_a_file(void)
+{
+    printf("A padded residual in a file\n");
+    lend_buffer(128);
+    create(7, 10);
+    append(32, 7, 3, one, 1, 1024, 1024, 17);
+    file[9] = 0;
+    printf("byte 9 is 0: ");
+    open_file(54, 7);
+    find(54, 7, 3);
+    fetch(54, 7, 4, 1024, 512, 0);
+    fetch(54, 7, 3, 1024, 512, 0);
+    fetch(54, 7, 3, 1024, 1024, 0);
+    fetch(54, 7, 3, 1024, 1024, 8);
+    append(54, 7, 4, zero, 1, 1024, 1024, 17);
+    fetch(75, 7, 3, 1024, 1024, 8);
+    fetch(75, 7, 4, 1024, 1024, 8);
+    replace(75, 7, 3, one, 1, 1024, 1024, 17);
+    fetch(75, 7, 3, 1024, 1024, 8);
 }
 
 /* Another exam number, tables that differ, too many words, and room that is one byte short in the buffer or in the
@@ -831,8 +905,9 @@ static void salvage_of_three_blocks(void)
 }
 
 /* A filler that is not 7, with a whole block before it and one behind; a block that lacks its last byte; lengths of
- * 2^32 - 1, of 0 and of 7; a count of 2^32 - 1; codes that add up to more and to less than the length. Then a block
- * that is whole: no words. */
+ * 2^32 - 1, of 0 and of 7; a count of 2^32 - 1; codes that add up to more and to less than the length; a padded
+ * residual, alone, first, between two whole blocks, and last. Then blocks that are whole: no words, and one byte of 0
+ * on top by low bits 3. */
 static void ends_of_a_salvage(void)
 {
     printf("The first block that is not whole\n");
@@ -845,7 +920,12 @@ static void ends_of_a_salvage(void)
     salvage("ff ff ff ff 08 00 00 00", 7, 10);
     salvage("01 00 00 00 09 00 00 00 67 01", 7, 10);
     salvage("01 00 00 00 0a 00 00 00 77 01", 7, 10);
+    salvage("01 00 00 00 0a 00 00 00 67 00", 7, 10);
+    salvage("01 00 00 00 0a 00 00 00 67 00 01 00 00 00 09 00 00 00 77", 7, 10);
+    salvage("01 00 00 00 09 00 00 00 77 01 00 00 00 0a 00 00 00 67 00 01 00 00 00 09 00 00 00 77", 7, 10);
+    salvage("01 00 00 00 09 00 00 00 77 01 00 00 00 0a 00 00 00 67 00", 7, 10);
     salvage("00 00 00 00 08 00 00 00", 7, 10);
+    salvage("01 00 00 00 0e 00 00 00 37 00 00 00 80 00", 7, 10);
 }
 
 /* Exam number 0, before t of 17, before room that is one byte short of the new file; then at exactly that limit. */
@@ -890,6 +970,8 @@ int main(void)
     setvbuf(stdout, NULL, _IONBF, 0);
     blocks_worked_by_hand();
     only_read();
+    padded();
+    padded_and_unpacked();
     refusals_to_pack();
     refusals_to_check();
     refusals_to_unpack();
@@ -900,6 +982,7 @@ int main(void)
     slots_that_do_not_ascend();
     refusals_to_find();
     refusals_to_fetch();
+    padded_in_a_file();
     refusals_to_append();
     replace_the_only_map();
     replace_one_of_two_maps();

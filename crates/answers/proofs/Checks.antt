@@ -66,6 +66,17 @@ unfolding firstFailure
 none-fails zero ks e = (refl, e)
 none-fails (suc k) ks e = absurd (omega arith)
 
+-- numbers that are at most m, answered in order
+pub none-above : (m : ℕ) → firstFailure [] ≤ m
+unfolding firstFailure
+none-above m = omega arith
+
+pub at-most : (test : Bool) (k m : ℕ) (ks : List ℕ) → k ≤ m → firstFailure ks ≤ m → firstFailure (unless test k ∷ ks) ≤ m
+unfolding unless firstFailure
+at-most true k m ks h l = l
+at-most false zero m ks h l = l
+at-most false (suc k) m ks h l = h
+
 -- ---- what is left
 
 pub afterwards-new : {A : Type 0} (k : ℕ) (new old : A) → k ≡ 0 → afterwards k new old ≡ new

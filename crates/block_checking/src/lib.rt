@@ -90,5 +90,8 @@ pub fn block_number(block: &[u8]) -> u32
     if !filler_stands(block, n) {
         return 6;
     }
+    if !block_padding::none_padded(block, n) {
+        return 13;
+    }
     0
 }

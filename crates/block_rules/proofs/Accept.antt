@@ -10,8 +10,8 @@ use lib.Seq.{take-append-le, drop-append-le}
 use borrow.Author.Tests.{leb-true, le-leb, lt-leb, eqb-true, eqb-false, eq-eqb, ne-eqb}
 use Rattle.words.specs.Bytes.{number}
 use Rattle.words.proofs.Tests.{either}
-use Rattle.answers.proofs.Checks.{unless-passes, unless-fails, unless-holds, all-pass, fails-here, fails-later, none-fails, afterwards-new, afterwards-old}
-use Rattle.block_rules.specs.Block.{block, count, statedLength, residualsAt, countedCodes, lastHalf, residualLength}
+use Rattle.answers.proofs.Checks.{unless-passes, unless-fails, unless-holds, all-pass, fails-here, fails-later, none-fails, none-above, at-most, afterwards-new, afterwards-old}
+use Rattle.block_rules.specs.Block.{block, count, statedLength, residualsAt, countedCodes, lastHalf, residualLength, codedIn, nonePadded}
 use Rattle.block_rules.specs.Calls.{packed, packsNumber, Packs, checked, unpacked, UnpacksWhere}
 use Rattle.block_rules.specs.Numbers.{packNumber, fillerStands, formNumber, blockNumber, unpackNumber, tOf}
 use Rattle.block_rules.specs.Inside.{Packable, PacksAll, Counted, Unpackable, UnpacksAll}
@@ -83,23 +83,53 @@ form-tells b e =
       filler = unless-holds _ _ (none-fails _ _ (f .1) .0) (omega arith);
     }
 
--- a block that check takes can be read
-pub takes-form : (b : List ℕ) → blockNumber b ≡ 0 → formNumber b ≡ 0
-unfolding blockNumber
-takes-form b e = e
-
-pub whole : (b : List ℕ) → blockNumber b ≡ 0 → Whole b
-whole b e = form-tells b (takes-form b e)
-
-pub whole-checks : (b : List ℕ) → Whole b → blockNumber b ≡ 0
-unfolding blockNumber formNumber
-whole-checks b w =
+pub whole-forms : (b : List ℕ) → Whole b → formNumber b ≡ 0
+unfolding formNumber
+whole-forms b w =
     sym
     (fails-later _ _ _ (unless-passes _ _ (le-leb _ _ (w .long)))
     (fails-later _ _ _ (unless-passes _ _ (le-leb _ _ (w .few)))
     (fails-later _ _ _ (unless-passes _ _ (eq-eqb _ _ (w .stated)))
     (fails-later _ _ _ (unless-passes _ _ (eq-eqb _ _ (w .stated ∙ w .adds)))
     (fails-later _ _ _ (unless-passes _ _ (w .filler)) all-pass)))))
+
+-- a block that check takes can be read
+pub takes-form : (b : List ℕ) → blockNumber b ≡ 0 → formNumber b ≡ 0
+unfolding blockNumber
+takes-form b e = none-fails _ _ e .0
+
+-- and no code of it is padded
+pub takes-tight : (b : List ℕ) → blockNumber b ≡ 0 → nonePadded (codedIn b) ≡ true
+unfolding blockNumber
+takes-tight b e = unless-holds _ _ (none-fails _ _ (none-fails _ _ e .1) .0) (omega arith)
+
+pub tight-takes : (b : List ℕ) → formNumber b ≡ 0 → nonePadded (codedIn b) ≡ true → blockNumber b ≡ 0
+unfolding blockNumber
+tight-takes b f t = sym (fails-later _ _ _ f (fails-later _ _ _ (unless-passes _ _ t) all-pass))
+
+-- the form's number answers where it is a refusal
+form-first : (b : List ℕ) (k : ℕ) → k ≡ formNumber b → (k ≡ 0 → ⊥) → k ≡ blockNumber b
+unfolding blockNumber
+form-first b k e h = fails-here _ _ _ e h
+
+-- where 13 answers, the form is right, and a code is padded
+form-at-most : (b : List ℕ) → formNumber b ≤ 6
+unfolding formNumber
+form-at-most b =
+    at-most _ 4 6 _ (omega arith)
+    (at-most _ 2 6 _ (omega arith) (at-most _ 5 6 _ (omega arith) (at-most _ 5 6 _ (omega arith) (at-most _ 6 6 _ (omega arith) (none-above 6)))))
+
+pub thirteen-tells : (b : List ℕ) → blockNumber b ≡ 13 → (formNumber b ≡ 0) × (nonePadded (codedIn b) ≡ false)
+thirteen-tells b e =
+    let f : formNumber b ≡ 0 = either (eqb (formNumber b) 0) (λ q. eqb-true _ _ q) (λ q. absurd (omega (arith, form-first b (formNumber b) refl (eqb-false _ _ q), form-at-most b))) in
+    (f, either (nonePadded (codedIn b)) (λ t. absurd (omega (arith, tight-takes b f t))) (λ t. t))
+
+pub padded-thirteen : (b : List ℕ) → formNumber b ≡ 0 → nonePadded (codedIn b) ≡ false → 13 ≡ blockNumber b
+unfolding blockNumber
+padded-thirteen b f h = fails-later _ _ _ f (fails-here _ _ _ (unless-fails _ _ h) (λ z. omega arith))
+
+pub whole : (b : List ℕ) → blockNumber b ≡ 0 → Whole b
+whole b e = form-tells b (takes-form b e)
 
 pub filler-needs : (b : List ℕ) → fillerStands b ≡ true → count b % 2 ≡ 1 → lastHalf b ≡ 7
 unfolding fillerStands
@@ -112,55 +142,69 @@ filler-has b h = either (eqb (count b % 2) 1) (λ e. rw (e, eq-eqb _ _ (h (eqb-t
 -- the checks one by one, as code makes them
 module _ (b : List ℕ) where
   pub too-short : length b < 8 → 4 ≡ blockNumber b
-  unfolding blockNumber formNumber
-  too-short h = fails-here _ _ _ (unless-fails _ _ (lt-leb _ _ h)) (λ e. omega arith)
+  unfolding formNumber
+  too-short h = form-first b 4 (fails-here _ _ _ (unless-fails _ _ (lt-leb _ _ h)) (λ e. omega arith)) (λ z. omega arith)
 
   module _ (n : ℕ) (long : 8 ≤ length b) (e : n ≡ count b) where
     pub too-many : 65536 < n → 2 ≡ blockNumber b
-    unfolding blockNumber formNumber
+    unfolding formNumber
     too-many h =
-        fails-later _ _ _ (unless-passes _ _ (le-leb _ _ long))
-        (fails-here _ _ _ (unless-fails _ _ (lt-leb (count b) 65536 (omega arith))) (λ z. omega arith))
+        form-first b 2
+        (fails-later _ _ _ (unless-passes _ _ (le-leb _ _ long))
+        (fails-here _ _ _ (unless-fails _ _ (lt-leb (count b) 65536 (omega arith))) (λ z. omega arith)))
+        (λ z. omega arith)
 
     module _ (few : n ≤ 65536) (s : ℕ) (q : s ≡ statedLength b) where
       pub misstated : (s ≡ length b → ⊥) → 5 ≡ blockNumber b
-      unfolding blockNumber formNumber
+      unfolding formNumber
       misstated h =
-          fails-later _ _ _ (unless-passes _ _ (le-leb _ _ long))
+          form-first b 5
+          (fails-later _ _ _ (unless-passes _ _ (le-leb _ _ long))
           (fails-later _ _ _ (unless-passes _ _ (le-leb (count b) 65536 (omega arith)))
-          (fails-here _ _ _ (unless-fails _ _ (ne-eqb _ _ (λ z. h (q ∙ z)))) (λ z. omega arith)))
+          (fails-here _ _ _ (unless-fails _ _ (ne-eqb _ _ (λ z. h (q ∙ z)))) (λ z. omega arith))))
+          (λ z. omega arith)
 
       module _ (stated : s ≡ length b) where
         pub uneven : (length b ≡ residualsAt n + residualLength (countedCodes b) → ⊥) → 5 ≡ blockNumber b
-        unfolding blockNumber formNumber
+        unfolding formNumber
         uneven h =
-            fails-later _ _ _ (unless-passes _ _ (le-leb _ _ long))
+            form-first b 5
+            (fails-later _ _ _ (unless-passes _ _ (le-leb _ _ long))
             (fails-later _ _ _ (unless-passes _ _ (le-leb (count b) 65536 (omega arith)))
             (fails-later _ _ _ (unless-passes _ _ (eq-eqb _ _ (sym q ∙ stated)))
             (fails-here _ _ _ (unless-fails _ _ (ne-eqb _ _ (λ z. h (sym stated ∙ q ∙ z ∙ ap (λ (k : ℕ). residualsAt k + residualLength (countedCodes b)) (sym e)))))
-            (λ z. omega arith))))
+            (λ z. omega arith)))))
+            (λ z. omega arith)
 
         module _ (adds : length b ≡ residualsAt n + residualLength (countedCodes b)) where
           pub unfilled : fillerStands b ≡ false → 6 ≡ blockNumber b
-          unfolding blockNumber formNumber
+          unfolding formNumber
           unfilled h =
-              fails-later _ _ _ (unless-passes _ _ (le-leb _ _ long))
+              form-first b 6
+              (fails-later _ _ _ (unless-passes _ _ (le-leb _ _ long))
               (fails-later _ _ _ (unless-passes _ _ (le-leb (count b) 65536 (omega arith)))
               (fails-later _ _ _ (unless-passes _ _ (eq-eqb _ _ (sym q ∙ stated)))
               (fails-later _ _ _ (unless-passes _ _ (eq-eqb _ _ (sym q ∙ stated ∙ adds ∙ ap (λ (k : ℕ). residualsAt k + residualLength (countedCodes b)) e)))
-              (fails-here _ _ _ (unless-fails _ _ h) (λ z. omega arith)))))
+              (fails-here _ _ _ (unless-fails _ _ h) (λ z. omega arith))))))
+              (λ z. omega arith)
 
-          pub fine : fillerStands b ≡ true → 0 ≡ blockNumber b
-          fine h =
-              sym
-              (whole-checks b
-              (record {
-                long = long;
-                few = omega arith;
-                stated = sym q ∙ stated;
-                adds = adds ∙ ap (λ (k : ℕ). residualsAt k + residualLength (countedCodes b)) e;
-                filler = h;
-              }))
+          module _ (filler : fillerStands b ≡ true) where
+            formed : formNumber b ≡ 0
+            formed =
+                whole-forms b
+                (record {
+                  long = long;
+                  few = omega arith;
+                  stated = sym q ∙ stated;
+                  adds = adds ∙ ap (λ (k : ℕ). residualsAt k + residualLength (countedCodes b)) e;
+                  filler = filler;
+                })
+
+            pub has-padding : nonePadded (codedIn b) ≡ false → 13 ≡ blockNumber b
+            has-padding h = padded-thirteen b formed h
+
+            pub fine : nonePadded (codedIn b) ≡ true → 0 ≡ blockNumber b
+            fine h = sym (tight-takes b formed h)
 
 pub too-short-for-codes : (b : List ℕ) → 8 ≤ length b → count b ≤ 65536 → length b < residualsAt (count b) → 5 ≡ blockNumber b
 too-short-for-codes b h few l =
@@ -288,8 +332,8 @@ pub stated-first : (b c : List ℕ) → 8 ≤ length b → statedLength (b ++ c)
 stated-first b c h =
     ap number (ap (λ (l : List ℕ). take 4 l) (drop-append-le 4 b c (omega arith)) ∙ take-append-le 4 (drop 4 b) c (omega (arith, length-drop 4 b)))
 
--- nothing can be added to a whole block
-pub whole-alone : (b c : List ℕ) → blockNumber b ≡ 0 → blockNumber (b ++ c) ≡ 0 → length c ≡ 0
+-- nothing can be added to a block that can be read
+pub whole-alone : (b c : List ℕ) → formNumber b ≡ 0 → formNumber (b ++ c) ≡ 0 → length c ≡ 0
 whole-alone b c e f =
-    let w = whole b e in
-    omega (arith, w .stated, whole (b ++ c) f .stated, stated-first b c (w .long), length-append b c)
+    let w = form-tells b e in
+    omega (arith, w .stated, form-tells (b ++ c) f .stated, stated-first b c (w .long), length-append b c)

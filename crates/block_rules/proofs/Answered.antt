@@ -13,12 +13,16 @@ pub pack-one-of : (n f d room : ℕ) → List·Mem (packNumber n f d room) (0 �
 unfolding packNumber
 pack-one-of n f d room = verdict-one-of _ _ (one-of-more _ _ (tables-one-of f d) refl) (check-one-of _ 2 _ (check-one-of _ 3 _ (no-check-one-of _) refl) refl)
 
-pub block-one-of : (b : List ℕ) → List·Mem (blockNumber b) (0 ∷ 4 ∷ 2 ∷ 5 ∷ 6 ∷ [])
-unfolding blockNumber formNumber
-block-one-of b =
+form-one-of : (b : List ℕ) → List·Mem (formNumber b) (0 ∷ 4 ∷ 2 ∷ 5 ∷ 6 ∷ [])
+unfolding formNumber
+form-one-of b =
     check-one-of _ 4 _ (check-one-of _ 2 _ (check-one-of _ 5 _ (check-one-of _ 5 _ (check-one-of _ 6 _ (no-check-one-of _) refl) refl) refl) refl) refl
 
-pub unpack-one-of : (b : List ℕ) (f d room : ℕ) → List·Mem (unpackNumber b f d room) (0 ∷ 1 ∷ 4 ∷ 2 ∷ 5 ∷ 6 ∷ 3 ∷ [])
+pub block-one-of : (b : List ℕ) → List·Mem (blockNumber b) (0 ∷ 4 ∷ 2 ∷ 5 ∷ 6 ∷ 13 ∷ [])
+unfolding blockNumber
+block-one-of b = verdict-one-of _ _ (one-of-more _ _ (form-one-of b) refl) (check-one-of _ 13 _ (no-check-one-of _) refl)
+
+pub unpack-one-of : (b : List ℕ) (f d room : ℕ) → List·Mem (unpackNumber b f d room) (0 ∷ 1 ∷ 4 ∷ 2 ∷ 5 ∷ 6 ∷ 13 ∷ 3 ∷ [])
 unfolding unpackNumber
 unpack-one-of b f d room =
     verdict-one-of _ _ (one-of-more _ _ (tables-one-of f d) refl)

@@ -1,15 +1,20 @@
 -- What is promised of the rules of a block, each promise with one line of plain words.
-use mathlib.Core.Path.{_≡_, refl, sym, ap, _∙_}
+use mathlib.Core.Path.{_≡_, refl, sym, ap, ap₂, _∙_}
+use mathlib.Core.Logic.{_↔_}
+use mathlib.Core.Bool.{Bool, true, true≢false}
 use mathlib.Core.List.{List, [], _∷_, _++_, map}
-use Prim.Native.Nat.{ℕ, _*_, _^_, _≤_, _<_}
+use Prim.Native.Nat.{ℕ, _*_, _%_, _^_, _≤_, _<_}
 use native.Mathlib.Omega.{arith}
 use lib.Count.{leadingZeros}
 use lib.ListN.{length, take, drop, length-drop, take-append-drop}
 use Rattle.words.specs.Words.{Words, add64, sub64, shiftedLeft, shiftedRight, lowBits, xor, zeroBytes}
+use Rattle.words.specs.Bytes.{Bytes}
+use Rattle.words.proofs.Tests.{either}
 use Rattle.answers.specs.Answers.{unless, firstFailure, afterwards}
 use Rattle.block_rules.specs.Predictors.{Memory, cleared, fcmPrediction, dfcmPrediction, difference, nextFcmHash, nextDfcmHash, learn}
-use Rattle.block_rules.specs.Codes.{Choice, fcmResidual, dfcmResidual, dfcmChosen, dfcmChosenByBytes, Thrifty, lowThree, written, codedBy, chosen, codedWord, residualBytes, decodedWord}
-use Rattle.block_rules.specs.Block.{arranged, blockBy, block, body, worst, count, residualsAt, countedCodes, lastHalf, wordsIn}
+use Rattle.block_rules.specs.Codes.{Choice, fcmResidual, dfcmResidual, dfcmChosen, dfcmChosenByBytes, Thrifty, lowThree, written, codedBy, chosen, codedWord, residualBytes, topByte, secondByte, padded, decodedWord}
+use Rattle.block_rules.specs.Block.{arranged, blockBy, block, body, worst, count, residualsAt, countedCodes, lastHalf, codedIn, wordsIn}
+use Rattle.block_rules.specs.Forms.{HasPadded, Smaller, named, blockNaming, namesBy}
 use Rattle.block_rules.specs.Room.{Run, joined, Cut, ofEqualWords, runCost, bound, closerBound, Settles, BlockFor}
 use Rattle.block_rules.specs.Calls.{checked}
 use Rattle.block_rules.specs.Worked.{cases, made, worked}
@@ -17,11 +22,13 @@ use Rattle.block_rules.specs.declared.Coded.{Coded}
 use Rattle.block_rules.specs.Numbers.{tOf, fillerStands, formNumber, blockNumber}
 use Rattle.block_rules.proofs.Tables.{t-of-power}
 use Rattle.block_rules.proofs.Codes.{rule-thrifty, bytes-thrifty}
+use Rattle.block_rules.proofs.Padded.{tight-low, low-tight}
 use Rattle.block_rules.proofs.Lengths.{block-at-most}
-use Rattle.block_rules.proofs.Accept.{takes-form, form-tells, checks-number, check-done, too-short-for-codes, whole-alone}
-use Rattle.block_rules.proofs.Round.{chosen-bytes, chosen-count, chosen-whole, chosen-words}
+use Rattle.block_rules.proofs.Accept.{takes-form, thirteen-tells, padded-thirteen, form-tells, checks-number, check-done, too-short-for-codes, whole-alone}
+use Rattle.block_rules.proofs.Round.{naming-bytes, naming-count, naming-names, naming-whole, naming-words, chosen-naming, chosen-bytes, chosen-count, chosen-whole, chosen-words}
 use Rattle.block_rules.proofs.Cost.{costs-no-more, blocks-alike}
 use Rattle.block_rules.proofs.Shortest.{reads-count, reads-words, none-shorter}
+use Rattle.block_rules.proofs.Forms.{code-fits, padded-smaller, smaller-padded, has-padded, padded-has, named-form}
 use Rattle.block_rules.proofs.Settle.{update, settles}
 use Rattle.block_rules.proofs.Runs.{block-closer, closer-at-most}
 
@@ -29,7 +36,7 @@ use Rattle.block_rules.proofs.Runs.{block-closer, closer-at-most}
 
 -- Every case of this list comes out as it was worked by hand.
 pub worked-by-hand : map made cases ≡ map worked cases
-unfolding block blockBy arranged body residualBytes codedWord chosen codedBy written lowThree dfcmChosen dfcmChosenByBytes fcmResidual dfcmResidual learn nextFcmHash nextDfcmHash difference fcmPrediction dfcmPrediction cleared checked blockNumber formNumber fillerStands lastHalf countedCodes unless firstFailure afterwards add64 sub64 shiftedLeft shiftedRight lowBits xor zeroBytes leadingZeros
+unfolding block blockBy arranged body residualBytes codedWord chosen codedBy written lowThree dfcmChosen dfcmChosenByBytes fcmResidual dfcmResidual learn nextFcmHash nextDfcmHash difference fcmPrediction dfcmPrediction cleared checked blockNumber formNumber fillerStands lastHalf countedCodes codedIn padded topByte secondByte unless firstFailure afterwards add64 sub64 shiftedLeft shiftedRight lowBits xor zeroBytes leadingZeros
 worked-by-hand = refl
 
 -- ---- the choice, and blocks that were packed before request L2
@@ -52,8 +59,8 @@ unfolding block
 as-long-as-before t ws = choices-cost-alike dfcmChosen dfcmChosenByBytes rule-is-thrifty before-was-thrifty t ws
 
 -- A block that was packed before is accepted, with the count of its words.
-pub packed-before-checks : (t : ℕ) (ws : List ℕ) → length ws ≤ 65536 → checked (blockBy dfcmChosenByBytes t ws) ≡ record { number = 0; count = length ws }
-packed-before-checks t ws few = sym (check-done _ _ (chosen-whole dfcmChosenByBytes t ws few) (sym (chosen-count dfcmChosenByBytes t ws few)))
+pub packed-before-checks : (t : ℕ) (ws : List ℕ) → length ws ≤ 65536 → Words ws → checked (blockBy dfcmChosenByBytes t ws) ≡ record { number = 0; count = length ws }
+packed-before-checks t ws few h = sym (check-done _ _ (chosen-whole dfcmChosenByBytes t ws few h) (sym (chosen-count dfcmChosenByBytes t ws few)))
 
 -- And it reads as its words, with tables of the same size.
 pub packed-before-reads : (t : ℕ) (ws : List ℕ) → length ws ≤ 65536 → Words ws → wordsIn t (blockBy dfcmChosenByBytes t ws) ≡ ws
@@ -84,7 +91,7 @@ packed-before-is-shortest t ws b k = thrifty-is-shortest dfcmChosenByBytes befor
 -- The block by any choice is itself a block of its words, where they are at most 65,536 and below 2^64. So the block by a thrifty choice is a shortest.
 pub block-is-for-its-words : (choice : Choice) (t : ℕ) (ws : List ℕ) → Words ws → length ws ≤ 65536 → BlockFor t ws (blockBy choice t ws)
 block-is-for-its-words choice t ws h few =
-    record { bytes = chosen-bytes choice t ws; formed = takes-form _ (chosen-whole choice t ws few); reads = chosen-words choice t ws few h }
+    record { bytes = chosen-bytes choice t ws; formed = takes-form _ (chosen-whole choice t ws few h); reads = chosen-words choice t ws few h }
 
 -- Words that have a block are at most 65,536, each below 2^64; and every block of them counts them.
 pub words-of-any-block : (t : ℕ) (ws b : List ℕ) → BlockFor t ws b → Words ws × (length ws ≤ 65536) × (count b ≡ length ws)
@@ -92,29 +99,85 @@ words-of-any-block t ws b k =
     let n = sym (reads-count t b (k .formed)) ∙ ap length (k .reads) in
     (rw (k .reads) at (reads-words t b (k .formed) (k .bytes)), rw n at (form-tells b (k .formed) .few), n)
 
+-- ---- padded codes
+
+-- Check answers 13 just where 4, 2, 5 and 6 do not answer and one of the counted codes is padded.
+pub padded-answers : (b : List ℕ) → (checked b .number ≡ 13) ↔ ((formNumber b ≡ 0) × HasPadded (codedIn b))
+padded-answers b = (
+  (λ e. let k = thirteen-tells b (sym (checks-number b) ∙ e) in (k .0, has-padded (codedIn b) (k .1))),
+  (λ k. checks-number b ∙ sym (padded-thirteen b (k .0) (padded-has (codedIn b) (k .1)))),
+)
+
+-- A code that is read from bytes is padded just where there is a smaller one: of the same predictor, with fewer bytes, that would have read the same residual.
+pub padded-has-smaller : (b : List ℕ) → Bytes b → (first : List Coded) (c : Coded) (rest : List Coded) → first ++ c ∷ rest ≡ codedIn b → (padded c ≡ true) ↔ Smaller c
+padded-has-smaller b h first c rest e =
+    let fits = code-fits b h first c rest e in
+    (padded-smaller c fits, smaller-padded c fits)
+
+-- It is padded just where its low bits are not those of the residual's own leading zero bytes.
+pub padded-low-bits : (b : List ℕ) → Bytes b → (first : List Coded) (c : Coded) (rest : List Coded) → first ++ c ∷ rest ≡ codedIn b
+    → (padded c ≡ true) ↔ (c .code % 8 ≡ lowThree (zeroBytes (c .residual)) → ⊥)
+padded-low-bits b h first c rest e =
+    let fits = code-fits b h first c rest e in (
+      (λ p low. true≢false (sym p ∙ low-tight c fits low)),
+      (λ other. either (padded c) (λ p. p) (λ p. absurd (other (tight-low c fits p)))),
+    )
+
+-- ---- the one form of a block
+
+-- An accepted block is the block of its words by the predictors that it names, whoever packed it, and for every t.
+pub accepted-is-named : (t : ℕ) (b : List ℕ) → Bytes b → checked b .number ≡ 0 → b ≡ blockNaming (named b) t (wordsIn t b)
+accepted-is-named t b h e = sym (named-form t b h (sym (checks-number b) ∙ e))
+
+-- And each such block is accepted: name a predictor for each of the words, and there is one block of bytes that names them and reads as the words.
+pub named-is-accepted : (ns : List Bool) (t : ℕ) (ws : List ℕ) → length ns ≡ length ws → length ws ≤ 65536 → Words ws
+    → Bytes (blockNaming ns t ws) × (checked (blockNaming ns t ws) ≡ record { number = 0; count = length ws })
+    × (named (blockNaming ns t ws) ≡ ns) × (wordsIn t (blockNaming ns t ws) ≡ ws)
+named-is-accepted ns t ws each few h = (
+  naming-bytes ns t ws,
+  sym (check-done _ _ (naming-whole ns t ws each few h) (sym (naming-count ns t ws each few))),
+  naming-names ns t ws each few,
+  naming-words ns t ws each few h,
+)
+
+-- So two accepted blocks that read as the same words, with tables of the same size, and name the same predictor at each word, are the same bytes.
+pub one-form : (t : ℕ) (b c : List ℕ) → Bytes b → Bytes c → checked b .number ≡ 0 → checked c .number ≡ 0
+    → wordsIn t b ≡ wordsIn t c → named b ≡ named c → b ≡ c
+one-form t b c h k e f ws ns = accepted-is-named t b h e ∙ ap₂ (λ (n : List Bool) (w : List ℕ). blockNaming n t w) ns ws ∙ sym (accepted-is-named t c k f)
+
+-- The block by a choice is the one that names what is chosen at each word.
+pub chosen-is-named : (choice : Choice) (t : ℕ) (ws : List ℕ) → blockBy choice t ws ≡ blockNaming (namesBy choice t (cleared t) ws) t ws
+chosen-is-named choice t ws = chosen-naming choice t ws
+
+-- So an accepted block is the packer's but for the choice: where it names what the rule chooses, it is the very block that pack writes.
+pub accepted-is-packed : (t : ℕ) (b : List ℕ) → Bytes b → checked b .number ≡ 0 → named b ≡ namesBy dfcmChosen t (cleared t) (wordsIn t b) → b ≡ block t (wordsIn t b)
+unfolding block
+accepted-is-packed t b h e ns =
+    accepted-is-named t b h e ∙ ap (λ (n : List Bool). blockNaming n t (wordsIn t b)) ns ∙ sym (chosen-is-named dfcmChosen t (wordsIn t b))
+
 -- ---- nothing cut short, nothing added
 
 -- Where 4 and 2 do not answer, a block that is too short for the codes it counts answers 5.
 pub codes-need-room : (b : List ℕ) → 8 ≤ length b → count b ≤ 65536 → length b < residualsAt (count b) → checked b .number ≡ 5
 codes-need-room b h few l = checks-number b ∙ sym (too-short-for-codes b h few l)
 
--- An accepted block reads as many words as it counts, with tables of any size.
-pub words-counted : (t : ℕ) (b : List ℕ) → checked b .number ≡ 0 → length (wordsIn t b) ≡ count b
-words-counted t b e = reads-count t b (takes-form b (sym (checks-number b) ∙ e))
+-- A block that can be read (none of 4, 2, 5, 6 answers) reads as many words as it counts, with tables of any size.
+pub words-counted : (t : ℕ) (b : List ℕ) → formNumber b ≡ 0 → length (wordsIn t b) ≡ count b
+words-counted t b e = reads-count t b e
 
 -- The t that is read off a table's length is its t.
 pub t-read-off : (t : ℕ) → t ≤ 16 → tOf (2 ^ t) ≡ t
 t-read-off t h = t-of-power t h
 
--- No proper first part of an accepted block is accepted.
-pub no-first-part : (b : List ℕ) (k : ℕ) → checked b .number ≡ 0 → k < length b → checked (take k b) .number ≡ 0 → ⊥
+-- No proper first part of a block that can be read can be read. So none is accepted.
+pub no-first-part : (b : List ℕ) (k : ℕ) → formNumber b ≡ 0 → k < length b → formNumber (take k b) ≡ 0 → ⊥
 no-first-part b k e h f =
-    let z = whole-alone (take k b) (drop k b) (sym (checks-number (take k b)) ∙ f) (rw (take-append-drop k b) (sym (checks-number b) ∙ e)) in
+    let z = whole-alone (take k b) (drop k b) f (rw (take-append-drop k b) e) in
     omega (arith, length-drop k b)
 
--- No accepted block with bytes added is accepted.
-pub nothing-added : (b c : List ℕ) → checked b .number ≡ 0 → checked (b ++ c) .number ≡ 0 → 0 < length c → ⊥
-nothing-added b c e f h = omega (arith, whole-alone b c (sym (checks-number b) ∙ e) (sym (checks-number (b ++ c)) ∙ f))
+-- No block that can be read can be read with bytes added. So it is not accepted.
+pub nothing-added : (b c : List ℕ) → formNumber b ≡ 0 → formNumber (b ++ c) ≡ 0 → 0 < length c → ⊥
+nothing-added b c e f h = omega (arith, whole-alone b c e f)
 
 -- ---- how much room a block needs
 

@@ -60,6 +60,13 @@ written-is c = counted (c % 8) (omega arith)
 pub written-small : (c : ℕ) → written c ≤ 8
 written-small c = omega (arith, written-is c)
 
+-- higher low bits write no more
+pub fewer-written : (c k : ℕ) → c % 8 ≤ k % 8 → written k ≤ written c
+fewer-written c k h = fewer (c % 8) (k % 8) _ _ h (written-is k) (written-is c)
+  where
+    fewer : (l i v w : ℕ) → l ≤ i → v + i + i / 4 ≡ 8 → w + l + l / 4 ≡ 8 → v ≤ w
+    fewer l i v w h p q = omega arith
+
 -- what fits the bytes that a code writes is a word
 pub fits-word : (r c : ℕ) → r < 256 ^ written c → r < 2 ^ 64
 fits-word r c h = lt-of-lt-of-le h (pow-256-le {b = 8} (written-small c))
@@ -73,7 +80,7 @@ code-small true r = omega (arith, low-three-small (zeroBytes r) (zeros-at-most r
 code-small false r = omega (arith, low-three-small (zeroBytes r) (zeros-at-most r))
 
 -- the low three bits alone decide what is written
-low-bits-decide : (c k : ℕ) → c % 8 ≡ k % 8 → written c ≡ written k
+pub low-bits-decide : (c k : ℕ) → c % 8 ≡ k % 8 → written c ≡ written k
 unfolding written
 low-bits-decide c k e = rw e
 

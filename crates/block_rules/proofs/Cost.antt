@@ -16,7 +16,7 @@ use Rattle.block_rules.specs.Predictors.{Memory, cleared, fcmPrediction,
 use Rattle.block_rules.specs.Codes.{Choice, Thrifty, fcmResidual, dfcmResidual, lowThree, written, chosen, codedWord, codedWords, namedPrediction, decodedWord}
 use Rattle.block_rules.specs.Block.{allResidualBytes, blockBy}
 use Rattle.block_rules.specs.declared.Coded.{Coded}
-use Rattle.block_rules.proofs.Codes.{low-three-is, low-three-of-zero, written-is, fits-word, coded-cost}
+use Rattle.block_rules.proofs.Codes.{low-three-is, low-three-of-zero, written-is, fewer-written, fits-word, coded-cost}
 use Rattle.block_rules.proofs.Lengths.{length-residuals, length-block-by}
 
 -- of the codes that write enough for z zero bytes, the code made for z writes least
@@ -27,7 +27,7 @@ least-enough z c h l =
     let some : z ≤ 7 = omega (arith, ltb-true z 8 e) in
     let b = low-three-is z some in
     let s : lowThree z % 8 ≡ lowThree z = whole _ z some b in
-    fewer-bytes (c % 8) (lowThree z) _ _ (no-higher (c % 8) (lowThree z) z some b (omega (arith, written-is c))) (rw s at (written-is (lowThree z))) (written-is c))
+    fewer-written c (lowThree z) (rw s (no-higher (c % 8) (lowThree z) z some b (omega (arith, written-is c)))))
     (λ e. omega (arith, low-three-of-zero z (omega (arith, ltb-false z 8 e)), written-is (lowThree z)))
   where
     whole : (k z : ℕ) → z ≤ 7 → k + z / 4 ≡ z → k % 8 ≡ k
@@ -35,9 +35,6 @@ least-enough z c h l =
 
     no-higher : (l k z : ℕ) → z ≤ 7 → k + z / 4 ≡ z → l + l / 4 ≤ z → l ≤ k
     no-higher l k z h e n = omega arith
-
-    fewer-bytes : (l k v w : ℕ) → l ≤ k → v + k + k / 4 ≡ 8 → w + l + l / 4 ≡ 8 → v ≤ w
-    fewer-bytes l k v w m p q = omega arith
 
 -- what fits the bytes that a code writes leaves the other bytes zero
 zeros-of-written : (r c : ℕ) → r < 256 ^ written c → 8 - zeroBytes r ≤ written c

@@ -7,12 +7,12 @@ use native.Mathlib.Omega.{arith}
 use native.Mathlib.Numerals.{add-one}
 use lib.Dec.{eqb}
 use lib.ListN.{length, getD, take, drop, length-take, length-drop, drop-of-length-le}
-use lib.Seq.{drop-cons, getD-drop, getD-take}
+use lib.Seq.{drop-cons, drop-drop, getD-drop, getD-take}
 use borrow.Author.Tests.{eq-eqb, ne-eqb}
 use Rattle.block_rules.specs.Predictors.{Memory, learn, cleared}
 use Rattle.block_rules.specs.Codes.{written, decodedWord, decodedWords}
 use Rattle.block_rules.specs.Block.{count, halves, countedCodes, residualLength, withResiduals, residualsAt, codedIn, wordsIn}
-use Rattle.block_rules.specs.Inside.{Counted}
+use Rattle.block_rules.specs.Inside.{Counted, codedAt}
 use Rattle.block_rules.specs.declared.Coded.{Coded}
 use Rattle.block_rules.proofs.Codes.{written-small}
 
@@ -85,10 +85,31 @@ length-decoded t m [] = refl
 length-decoded t m (c ∷ cs) = ap suc (length-decoded t (learn t m (decodedWord m c)) cs)
 
 -- a block holds as many coded words as it counts, and reads as many words
-length-in : (b : List ℕ) (n : ℕ) → Counted b n → length (codedIn b) ≡ n
+pub length-in : (b : List ℕ) (n : ℕ) → Counted b n → length (codedIn b) ≡ n
 unfolding codedIn
 length-in b n c = length-with (countedCodes b) (drop (residualsAt (count b)) b) ∙ length-counted b n c
 
 pub length-words : (t : ℕ) (b : List ℕ) (n : ℕ) → Counted b n → length (wordsIn t b) ≡ n
 unfolding wordsIn
 length-words t b n c = length-decoded t (cleared t) (codedIn b) ∙ length-in b n c
+
+-- ---- from a code and a place on
+
+-- the codes and residuals from code i and the byte at a place on
+abbrev pub rest : List ℕ → ℕ → ℕ → List Coded
+rest b i at = withResiduals (drop i (countedCodes b)) (drop at b)
+
+module _ (b : List ℕ) (n i at code : ℕ) (c : Counted b n) (h : i < n) (e : code ≡ getD (halves (drop 8 b)) i 0) where
+  code-next : drop i (countedCodes b) ≡ code ∷ drop (i + 1) (countedCodes b)
+  code-next = counted-next b n i c h ∙ rw e
+
+  -- the next code with its residual, and what is behind them
+  pub rest-next : rest b i at ≡ codedAt b at code ∷ rest b (i + 1) (at + written code)
+  rest-next = rw (code-next, ← (drop-drop (written code) at b))
+
+  -- where the bytes from a place on are those of the codes, so are those behind
+  pub span-next : at + residualLength (drop i (countedCodes b)) ≡ length b → at + written code + residualLength (drop (i + 1) (countedCodes b)) ≡ length b
+  span-next s = omega (arith, rw code-next at s)
+
+pub rest-none : (b : List ℕ) (n i at : ℕ) → Counted b n → n ≤ i → rest b i at ≡ []
+rest-none b n i at c h = rw (counted-none b n i c h)

@@ -2,12 +2,14 @@ pub mod Tables
 pub mod Codes
 pub mod Learn
 pub mod Lengths
+pub mod Cost
+pub mod Padded
 pub mod Accept
 pub mod Answered
 pub mod Get
 pub mod Round
-pub mod Cost
 pub mod Shortest
+pub mod Forms
 pub mod Settle
 pub mod Runs
 pub mod Claims

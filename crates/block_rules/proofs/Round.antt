@@ -1,28 +1,31 @@
--- Reading back: what was arranged as a block is read as it was; and codes and residuals of words, by any choice, give the words.
+-- Reading back: what was arranged as a block is read as it was; and codes and residuals of words, by any predictors, give the words.
 use mathlib.Core.Path.{_≡_, refl, sym, ap, _∙_}
-use mathlib.Core.List.{List, [], _∷_, _++_}
-use mathlib.Core.Bool.{true, false}
+use mathlib.Core.List.{List, [], _∷_, _++_, map}
+use mathlib.Core.Bool.{Bool, true, false, cond}
 use Prim.Native.Nat.{ℕ, zero, suc, _+_, _*_, _/_, _%_, _^_, _≤_, _<_}
 use native.Mathlib.Omega.{arith}
 use lib.Dec.{eqb}
 use lib.ListN.{length, getD, set, take, drop, replicate}
 use lib.Seq.{take-at, drop-at, drop-drop, take-append-seam}
-use borrow.Author.Tests.{eqb-true}
-use Rattle.words.specs.Words.{Words, sub64, add64}
+use borrow.Author.Tests.{le-leb, lt-leb, eqb-true}
+use Rattle.words.specs.Words.{Words, sub64, add64, zeroBytes}
 use Rattle.words.specs.Bytes.{Bytes, lowBytes, number}
 use Rattle.words.proofs.Each.{Each, none, more}
 use Rattle.words.proofs.Tests.{either}
+use Rattle.words.proofs.Zeros.{zeros-at-most}
 use Rattle.words.proofs.Xor.{xor-back, xor-word}
 use Rattle.words.proofs.Bytes.{bytes-append, bytes-low, number-low}
 use Rattle.block_rules.specs.Predictors.{Memory, cleared, fcmPrediction, dfcmPrediction, difference, learn}
-use Rattle.block_rules.specs.Codes.{Choice, fcmResidual, dfcmResidual, written, codedBy, codedWord, codedWords, residualBytes, decodedWord, decodedWords}
+use Rattle.block_rules.specs.Codes.{Choice, fcmResidual, dfcmResidual, lowThree, written, codedBy, chosen, codedWord, codedWords, residualBytes, decodedWord, decodedWords}
 use Rattle.block_rules.specs.Block.{codes, codeBytes, allResidualBytes, body, arranged, blockBy, block, residualsAt, count, statedLength, halves, countedCodes, lastHalf, residualLength, withResiduals, codedIn, wordsIn}
-use Rattle.block_rules.specs.Numbers.{fillerStands, blockNumber}
+use Rattle.block_rules.specs.Numbers.{fillerStands, formNumber, blockNumber}
+use Rattle.block_rules.specs.Forms.{namesDfcm, named, codedNaming, allNaming, blockNaming, namesBy}
 use Rattle.block_rules.specs.Inside.{PacksAll, UnpacksAll}
 use Rattle.block_rules.specs.declared.Coded.{Coded}
-use Rattle.block_rules.proofs.Codes.{names-dfcm, names-fcm, coded-residual, whichever, coded-small, coded-by-fits}
-use Rattle.block_rules.proofs.Lengths.{length-residual, length-residuals, length-codes, length-coded, length-code-bytes, length-body, length-arranged, arranged-at-most}
-use Rattle.block_rules.proofs.Accept.{whole-checks, counted}
+use Rattle.block_rules.proofs.Codes.{low-three-small, code-small, names-dfcm, names-fcm, coded-residual, coded-by-fits}
+use Rattle.block_rules.proofs.Padded.{Tight, coded-tight, none-padded}
+use Rattle.block_rules.proofs.Lengths.{length-residual, length-residuals, length-codes, length-code-bytes, length-body, length-arranged, arranged-at-most}
+use Rattle.block_rules.proofs.Accept.{whole-forms, tight-takes, counted}
 use Rattle.block_rules.proofs.Get.{length-words}
 
 -- ---- codes from their bytes
@@ -122,10 +125,10 @@ module _ (cs : List Coded) (few : length cs ≤ 65536) (small : FourBits (codes 
       rw (arranged-count, after-head, ← (length-codes cs))
       (either (eqb (length (codes cs) % 2) 1) (λ e. rw (e, filler-back (codes cs) (allResidualBytes cs) (eqb-true _ _ e))) (λ e. rw e))
 
-  -- it is whole
-  pub arranged-whole : blockNumber (arranged cs) ≡ 0
-  arranged-whole =
-      whole-checks (arranged cs)
+  -- it can be read
+  pub arranged-forms : formNumber (arranged cs) ≡ 0
+  arranged-forms =
+      whole-forms (arranged cs)
       (record {
         long = omega (arith, length-arranged cs);
         few = rw arranged-count few;
@@ -139,16 +142,23 @@ module _ (cs : List Coded) (few : length cs ≤ 65536) (small : FourBits (codes 
   unfolding codedIn
   arranged-back f = rw (arranged-count, arranged-codes, arranged-residuals) (residuals-back cs f)
 
--- ---- one word, by any choice
+  -- so where no code is padded, check takes it
+  pub arranged-whole : Fit cs → Tight cs → blockNumber (arranged cs) ≡ 0
+  arranged-whole f t = tight-takes (arranged cs) arranged-forms (rw (arranged-back f) (none-padded t))
 
--- the word comes back from its code and each of its residuals
-by-dfcm : (m : Memory) (v : ℕ) → decodedWord m (codedBy true (dfcmResidual m v)) ≡ v
-unfolding decodedWord dfcmResidual
-by-dfcm m v = rw (names-dfcm m _, coded-residual) (xor-back v (dfcmPrediction m))
+-- ---- one word, by either predictor
 
-by-fcm : (m : Memory) (v : ℕ) → decodedWord m (codedBy false (fcmResidual m v)) ≡ v
-unfolding decodedWord fcmResidual
-by-fcm m v = rw (names-fcm m _, coded-residual) (xor-back v (fcmPrediction m))
+-- the word comes back from its code and its residual
+word-back : (m : Memory) (n : Bool) (v : ℕ) → decodedWord m (codedNaming m n v) ≡ v
+unfolding codedNaming decodedWord fcmResidual dfcmResidual
+word-back m true v = rw (names-dfcm m _, coded-residual) (xor-back v (dfcmPrediction m))
+word-back m false v = rw (names-fcm m _, coded-residual) (xor-back v (fcmPrediction m))
+
+-- its code names the predictor
+name-back : (m : Memory) (n : Bool) (v : ℕ) → namesDfcm (codedNaming m n v .code) ≡ n
+unfolding codedNaming namesDfcm codedBy
+name-back m true v = le-leb 8 (8 + lowThree (zeroBytes (dfcmResidual m v))) (omega arith)
+name-back m false v = lt-leb 8 (0 + lowThree (zeroBytes (fcmResidual m v))) (omega (arith, low-three-small _ (zeros-at-most (fcmResidual m v))))
 
 -- words of 64 bits in the predictors
 pub record Wide (m : Memory) : Type 0 where
@@ -185,59 +195,130 @@ dfcm-wide : (m : Memory) (v : ℕ) → v < 2 ^ 64 → dfcmResidual m v < 2 ^ 64
 unfolding dfcmResidual dfcmPrediction add64
 dfcm-wide m v h = xor-word v _ h (omega arith)
 
+-- its residual is a word
+naming-wide : (m : Memory) (n : Bool) (v : ℕ) → Wide m → v < 2 ^ 64 → cond n (dfcmResidual m v) (fcmResidual m v) < 2 ^ 64
+naming-wide m true v w h = dfcm-wide m v h
+naming-wide m false v w h = fcm-wide m v w h
+
+-- ---- the words, each by the predictor that is named for it
+
+module _ (t : ℕ) where
+  -- their codes have four bits
+  naming-four-bits : (m : Memory) (ns : List Bool) (ws : List ℕ) → FourBits (codes (allNaming t m ns ws))
+  unfolding codedNaming
+  naming-four-bits m [] ws i = omega arith
+  naming-four-bits m (n ∷ ns) [] i = omega arith
+  naming-four-bits m (n ∷ ns) (v ∷ vs) zero = code-small n _
+  naming-four-bits m (n ∷ ns) (v ∷ vs) (suc i) = naming-four-bits (learn t m v) ns vs i
+
+  -- their residuals fit
+  naming-fit : (m : Memory) (ns : List Bool) (ws : List ℕ) → Wide m → Words ws → Fit (allNaming t m ns ws)
+  unfolding codedNaming
+  naming-fit m [] ws w h = none
+  naming-fit m (n ∷ ns) [] w h = none
+  naming-fit m (n ∷ ns) (v ∷ vs) w h =
+      more (coded-by-fits n _ (naming-wide m n v w (h 0))) (naming-fit (learn t m v) ns vs (wide-learn t m v w (h 0)) (λ i. h (suc i)))
+
+  -- their codes are not padded
+  naming-tight : (m : Memory) (ns : List Bool) (ws : List ℕ) → Wide m → Words ws → Tight (allNaming t m ns ws)
+  unfolding codedNaming
+  naming-tight m [] ws w h = none
+  naming-tight m (n ∷ ns) [] w h = none
+  naming-tight m (n ∷ ns) (v ∷ vs) w h =
+      more (coded-tight n _ (naming-wide m n v w (h 0))) (naming-tight (learn t m v) ns vs (wide-learn t m v w (h 0)) (λ i. h (suc i)))
+
+  -- there are as many, they come back, and their codes name the predictors
+  length-naming : (m : Memory) (ns : List Bool) (ws : List ℕ) → length ns ≡ length ws → length (allNaming t m ns ws) ≡ length ws
+  length-naming m [] [] e = refl
+  length-naming m [] (v ∷ vs) e = absurd (omega arith)
+  length-naming m (n ∷ ns) [] e = refl
+  length-naming m (n ∷ ns) (v ∷ vs) e = ap suc (length-naming (learn t m v) ns vs (omega arith))
+
+  naming-back : (m : Memory) (ns : List Bool) (ws : List ℕ) → length ns ≡ length ws → decodedWords t m (allNaming t m ns ws) ≡ ws
+  naming-back m [] [] e = refl
+  naming-back m [] (v ∷ vs) e = absurd (omega arith)
+  naming-back m (n ∷ ns) [] e = absurd (omega arith)
+  naming-back m (n ∷ ns) (v ∷ vs) e = rw (word-back m n v) (ap (λ (l : List ℕ). v ∷ l) (naming-back (learn t m v) ns vs (omega arith)))
+
+  names-back : (m : Memory) (ns : List Bool) (ws : List ℕ) → length ns ≡ length ws → map namesDfcm (codes (allNaming t m ns ws)) ≡ ns
+  names-back m [] [] e = refl
+  names-back m [] (v ∷ vs) e = absurd (omega arith)
+  names-back m (n ∷ ns) [] e = absurd (omega arith)
+  names-back m (n ∷ ns) (v ∷ vs) e = rw (name-back m n v) (ap (λ (l : List Bool). n ∷ l) (names-back (learn t m v) ns vs (omega arith)))
+
+module _ (ns : List Bool) (t : ℕ) (ws : List ℕ) where
+  -- their block is bytes
+  pub naming-bytes : Bytes (blockNaming ns t ws)
+  unfolding blockNaming
+  naming-bytes = arranged-bytes (allNaming t (cleared t) ns ws) (naming-four-bits t (cleared t) ns ws)
+
+  -- it counts the words and names the predictors; check takes it, and it reads as the words
+  module _ (each : length ns ≡ length ws) (few : length ws ≤ 65536) where
+    abbrev cs : List Coded
+    cs = allNaming t (cleared t) ns ws
+
+    few-coded : length cs ≤ 65536
+    few-coded = rw (length-naming t (cleared t) ns ws each) few
+
+    four-bits : FourBits (codes cs)
+    four-bits = naming-four-bits t (cleared t) ns ws
+
+    pub naming-count : count (blockNaming ns t ws) ≡ length ws
+    unfolding blockNaming
+    naming-count = arranged-count cs few-coded four-bits ∙ length-naming t (cleared t) ns ws each
+
+    pub naming-names : named (blockNaming ns t ws) ≡ ns
+    unfolding blockNaming named
+    naming-names = ap (map namesDfcm) (arranged-codes cs few-coded four-bits) ∙ names-back t (cleared t) ns ws each
+
+    module _ (wide : Words ws) where
+      fit : Fit cs
+      fit = naming-fit t (cleared t) ns ws (wide-cleared t) wide
+
+      pub naming-whole : blockNumber (blockNaming ns t ws) ≡ 0
+      unfolding blockNaming
+      naming-whole = arranged-whole cs few-coded four-bits fit (naming-tight t (cleared t) ns ws (wide-cleared t) wide)
+
+      pub naming-words : wordsIn t (blockNaming ns t ws) ≡ ws
+      unfolding blockNaming wordsIn
+      naming-words = rw (arranged-back cs few-coded four-bits fit) (naming-back t (cleared t) ns ws each)
+
 -- ---- the words, by any choice
 
 module _ (choice : Choice) where
-  word-back : (m : Memory) (v : ℕ) → decodedWord m (codedWord choice m v) ≡ v
-  unfolding codedWord
-  word-back m v = whichever choice (λ (c : Coded). decodedWord m c ≡ v) (fcmResidual m v) (dfcmResidual m v) (by-dfcm m v) (by-fcm m v)
+  choice-names : (m : Memory) (v : ℕ) → codedWord choice m v ≡ codedNaming m (choice (fcmResidual m v) (dfcmResidual m v)) v
+  unfolding codedWord chosen codedNaming
+  choice-names m v = either (choice (fcmResidual m v) (dfcmResidual m v)) (λ e. rw e) (λ e. rw e)
 
-  residual-fits : (m : Memory) (v : ℕ) → Wide m → v < 2 ^ 64 → codedWord choice m v .residual < 256 ^ written (codedWord choice m v .code)
-  unfolding codedWord
-  residual-fits m v w h =
-      whichever choice (λ (c : Coded). c .residual < 256 ^ written (c .code)) (fcmResidual m v) (dfcmResidual m v) (coded-by-fits true _ (dfcm-wide m v h)) (coded-by-fits false _ (fcm-wide m v w h))
+  coded-naming : (t : ℕ) (m : Memory) (ws : List ℕ) → codedWords choice t m ws ≡ allNaming t m (namesBy choice t m ws) ws
+  coded-naming t m [] = refl
+  coded-naming t m (v ∷ vs) = rw (choice-names m v, coded-naming t (learn t m v) vs)
 
-  -- their codes have four bits
-  coded-four-bits : (t : ℕ) (ws : List ℕ) (m : Memory) → FourBits (codes (codedWords choice t m ws))
-  coded-four-bits t [] m i = omega arith
-  coded-four-bits t (v ∷ vs) m zero = coded-small choice m v
-  coded-four-bits t (v ∷ vs) m (suc i) = coded-four-bits t vs (learn t m v) i
+  length-names : (t : ℕ) (m : Memory) (ws : List ℕ) → length (namesBy choice t m ws) ≡ length ws
+  length-names t m [] = refl
+  length-names t m (v ∷ vs) = ap suc (length-names t (learn t m v) vs)
 
-  -- their residuals fit
-  coded-fit : (t : ℕ) (ws : List ℕ) (m : Memory) → Wide m → Words ws → Fit (codedWords choice t m ws)
-  coded-fit t [] m w h = none
-  coded-fit t (v ∷ vs) m w h = more (residual-fits m v w (h 0)) (coded-fit t vs (learn t m v) (wide-learn t m v w (h 0)) (λ i. h (suc i)))
+  -- a choice names a predictor for each word
+  module _ (t : ℕ) (ws : List ℕ) where
+    abbrev names : List Bool
+    names = namesBy choice t (cleared t) ws
 
-  -- and they come back
-  words-back : (t : ℕ) (ws : List ℕ) (m : Memory) → decodedWords t m (codedWords choice t m ws) ≡ ws
-  words-back t [] m = refl
-  words-back t (v ∷ vs) m = rw (word-back m v) (ap (λ (l : List ℕ). v ∷ l) (words-back t vs (learn t m v)))
+    pub chosen-naming : blockBy choice t ws ≡ blockNaming names t ws
+    unfolding blockBy blockNaming
+    chosen-naming = ap arranged (coded-naming t (cleared t) ws)
 
-  -- their block is bytes
-  pub chosen-bytes : (t : ℕ) (ws : List ℕ) → Bytes (blockBy choice t ws)
-  unfolding blockBy
-  chosen-bytes t ws = arranged-bytes (codedWords choice t (cleared t) ws) (coded-four-bits t ws (cleared t))
+    pub chosen-bytes : Bytes (blockBy choice t ws)
+    chosen-bytes = rw chosen-naming (naming-bytes names t ws)
 
-  -- so the block of words by any choice is whole, counts the words, and reads as the words
-  module _ (t : ℕ) (ws : List ℕ) (few : length ws ≤ 65536) where
-    abbrev cs : List Coded
-    cs = codedWords choice t (cleared t) ws
+    module _ (few : length ws ≤ 65536) where
+      pub chosen-count : count (blockBy choice t ws) ≡ length ws
+      chosen-count = rw chosen-naming (naming-count names t ws (length-names t (cleared t) ws) few)
 
-    few-coded : length cs ≤ 65536
-    few-coded = rw (length-coded choice t (cleared t) ws) few
+      pub chosen-whole : Words ws → blockNumber (blockBy choice t ws) ≡ 0
+      chosen-whole wide = rw chosen-naming (naming-whole names t ws (length-names t (cleared t) ws) few wide)
 
-    pub chosen-count : count (blockBy choice t ws) ≡ length ws
-    unfolding blockBy
-    chosen-count = arranged-count cs few-coded (coded-four-bits t ws (cleared t)) ∙ length-coded choice t (cleared t) ws
-
-    pub chosen-whole : blockNumber (blockBy choice t ws) ≡ 0
-    unfolding blockBy
-    chosen-whole = arranged-whole cs few-coded (coded-four-bits t ws (cleared t))
-
-    pub chosen-words : Words ws → wordsIn t (blockBy choice t ws) ≡ ws
-    unfolding blockBy wordsIn
-    chosen-words h =
-        rw (arranged-back cs few-coded (coded-four-bits t ws (cleared t)) (coded-fit t ws (cleared t) (wide-cleared t) h)) (words-back t ws (cleared t))
+      pub chosen-words : Words ws → wordsIn t (blockBy choice t ws) ≡ ws
+      chosen-words wide = rw chosen-naming (naming-words names t ws (length-names t (cleared t) ws) few wide)
 
 -- the block stands first in the output
 pub written-block : {t : ℕ} {ws old f' d' out' : List ℕ} {k : ℕ} → PacksAll t ws old f' d' out' k → take k out' ≡ block t ws

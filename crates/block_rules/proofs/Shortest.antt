@@ -31,7 +31,7 @@ read-fit [] bs h = none
 read-fit (c ∷ cs) bs h = more (number-below (written c) bs h) (read-fit cs (drop (written c) bs) (bytes-drop (written c) bs h))
 
 -- their codes are those read
-read-codes : (cs bs : List ℕ) → codes (withResiduals cs bs) ≡ cs
+pub read-codes : (cs bs : List ℕ) → codes (withResiduals cs bs) ≡ cs
 read-codes [] bs = refl
 read-codes (c ∷ cs) bs = ap (λ (l : List ℕ). c ∷ l) (read-codes cs (drop (written c) bs))
 
@@ -64,21 +64,21 @@ none-cheaper choice thrifty t (c ∷ cs) m (more h f) =
 
 -- ---- blocks that can be read
 
+pub fit-in : (b : List ℕ) → Bytes b → Fit (codedIn b)
+unfolding codedIn
+fit-in b h = read-fit (countedCodes b) (drop (residualsAt (count b)) b) (bytes-drop (residualsAt (count b)) b h)
+
 module _ (t : ℕ) (b : List ℕ) (formed : formNumber b ≡ 0) where
   pub reads-count : length (wordsIn t b) ≡ count b
   reads-count = length-words t b (count b) (whole-counted b (count b) (form-tells b formed) refl)
 
   module _ (bytes : Bytes b) where
-    fit-in : Fit (codedIn b)
-    unfolding codedIn
-    fit-in = read-fit (countedCodes b) (drop (residualsAt (count b)) b) (bytes-drop (residualsAt (count b)) b bytes)
-
     pub reads-words : Words (wordsIn t b)
     unfolding wordsIn
-    reads-words = decoded-words t (codedIn b) (cleared t) (wide-cleared t) fit-in
+    reads-words = decoded-words t (codedIn b) (cleared t) (wide-cleared t) (fit-in b bytes)
 
     pub none-shorter : (choice : Choice) → Thrifty choice → length (blockBy choice t (wordsIn t b)) ≤ length b
     unfolding wordsIn codedIn
     none-shorter choice thrifty =
-        let least = rw (read-codes (countedCodes b) (drop (residualsAt (count b)) b)) at (none-cheaper choice thrifty t (codedIn b) (cleared t) fit-in) in
+        let least = rw (read-codes (countedCodes b) (drop (residualsAt (count b)) b)) at (none-cheaper choice thrifty t (codedIn b) (cleared t) (fit-in b bytes)) in
         omega (arith, length-block-by choice t (wordsIn t b), reads-count, form-tells b formed .adds, least)

@@ -1,10 +1,11 @@
 -- The block: word count, length of the whole block, codes, residual bytes; and what a block reads as.
 use Prim.Native.Nat.{ℕ, _+_, _*_, _/_, _%_}
 use mathlib.Core.List.{List, [], _∷_, _++_}
+use mathlib.Core.Bool.{Bool, true, not, _&&_}
 use lib.ListN.{length, getD, take, drop}
 use Rattle.words.specs.Bytes.{lowBytes, number, field}
 use Rattle.block_rules.specs.Predictors.{cleared}
-use Rattle.block_rules.specs.Codes.{Choice, dfcmChosen, codedWords, residualBytes, written, decodedWords}
+use Rattle.block_rules.specs.Codes.{Choice, dfcmChosen, codedWords, residualBytes, padded, written, decodedWords}
 use Rattle.block_rules.specs.declared.Coded.{Coded}
 
 -- the codes of coded words
@@ -83,6 +84,11 @@ withResiduals (c ∷ cs) bs = record { code = c; residual = number (take (writte
 -- the coded words of a block: the counted codes, with their residuals
 unfoldable pub codedIn : List ℕ → List Coded
 codedIn b = withResiduals (countedCodes b) (drop (residualsAt (count b)) b)
+
+-- whether no code of coded words is padded
+abbrev pub nonePadded : List Coded → Bool
+nonePadded [] = true
+nonePadded (c ∷ cs) = not (padded c) && nonePadded cs
 
 -- the words of a block, with tables of 2 ^ t words
 unfoldable pub wordsIn : ℕ → List ℕ → List ℕ

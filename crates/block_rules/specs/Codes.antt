@@ -1,10 +1,10 @@
 -- The choice between the two predictions, the code of a word, its residual bytes, and the way back.
 use mathlib.Core.Path.{_≡_}
-use Prim.Native.Nat.{ℕ, _+_, _%_, _≤_}
+use Prim.Native.Nat.{ℕ, _+_, _-_, _%_, _≤_}
 use mathlib.Core.List.{List, [], _∷_}
-use mathlib.Core.Bool.{Bool, true, false, cond}
+use mathlib.Core.Bool.{Bool, true, false, cond, _&&_}
 use lib.Count.{leadingZeros}
-use lib.Dec.{ltb}
+use lib.Dec.{ltb, eqb}
 use lib.ListN.{getD}
 use Rattle.words.specs.Words.{xor, zeroBytes}
 use Rattle.words.specs.Bytes.{lowBytes}
@@ -66,6 +66,18 @@ codedWords choice t m (v ∷ vs) = codedWord choice m v ∷ codedWords choice t 
 -- the residual bytes that are written, low byte first
 unfoldable pub residualBytes : Coded → List ℕ
 residualBytes c = lowBytes (written (c .code)) (c .residual)
+
+-- the top residual byte of a code: the last that is written
+unfoldable pub topByte : Coded → ℕ
+topByte c = getD (residualBytes c) (written (c .code) - 1) 0
+
+-- the residual byte below the top one
+unfoldable pub secondByte : Coded → ℕ
+secondByte c = getD (residualBytes c) (written (c .code) - 2) 0
+
+-- a padded code: low bits 0 to 6, and its top residual byte is 0; for low bits 3, only when the two top bytes are both 0
+unfoldable pub padded : Coded → Bool
+padded c = ltb (c .code % 8) 7 && cond (eqb (c .code % 8) 3) (eqb (topByte c) 0 && eqb (secondByte c) 0) (eqb (topByte c) 0)
 
 -- ---- the way back
 

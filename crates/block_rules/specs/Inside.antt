@@ -1,14 +1,17 @@
 -- What inner functions of more than one crate require and ensure. No promise of a call is stated here.
 use mathlib.Core.Path.{_≡_}
-use Prim.Native.Nat.{ℕ, _^_, _<_, _≤_}
+use Prim.Native.Nat.{ℕ, _+_, _^_, _<_, _≤_}
 use mathlib.Core.List.{List}
 use lib.ListN.{length, replicate}
+use Rattle.words.specs.Bytes.{field}
 use Rattle.answers.specs.Answers.{over}
 use Rattle.block_rules.specs.Predictors.{Memory, cleared, after}
-use Rattle.block_rules.specs.Block.{residualsAt, worst, block, wordsIn}
+use Rattle.block_rules.specs.Codes.{written}
+use Rattle.block_rules.specs.Block.{residualsAt, countedCodes, residualLength, worst, block, wordsIn}
 use Rattle.block_rules.specs.Block as Block
 use Rattle.block_rules.specs.Numbers.{tOf, blockNumber}
 use Rattle.block_rules.specs.declared.Carry.{Carry}
+use Rattle.block_rules.specs.declared.Coded.{Coded}
 
 -- the two tables, and the hashes and the last word that the code carries, as one memory
 abbrev pub memory : List ℕ → List ℕ → Carry → Memory
@@ -50,6 +53,15 @@ pub record Counted (b : List ℕ) (n : ℕ) : Type 0 where
   pub count : n ≡ Block.count b
   pub few : n ≤ 65536
   pub codes : residualsAt n ≤ length b
+
+-- one that is just as long as its codes say
+pub record Spanned (b : List ℕ) (n : ℕ) : Type 0 where
+  pub counted : Counted b n
+  pub adds : length b ≡ residualsAt n + residualLength (countedCodes b)
+
+-- a code with its residual, whose bytes start at a place of a block
+abbrev pub codedAt : List ℕ → ℕ → ℕ → Coded
+codedAt b at code = record { code = code; residual = field (written code) at b }
 
 -- nothing refuses to unpack: the block, the tables and the room in number
 pub record Unpackable (b : List ℕ) (f d words : ℕ) : Type 0 where

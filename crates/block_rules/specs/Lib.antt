@@ -5,4 +5,5 @@ pub mod Room
 pub mod Calls
 pub mod Worked
 pub mod Numbers
+pub mod Forms
 pub mod Inside

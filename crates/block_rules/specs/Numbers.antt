@@ -6,7 +6,7 @@ use lib.Count.{trailingZeros}
 use lib.Dec.{leb, eqb}
 use lib.ListN.{length}
 use Rattle.answers.specs.Answers.{unless, firstFailure}
-use Rattle.block_rules.specs.Block.{count, statedLength, residualsAt, countedCodes, lastHalf, residualLength, worst}
+use Rattle.block_rules.specs.Block.{count, statedLength, residualsAt, countedCodes, lastHalf, residualLength, codedIn, nonePadded, worst}
 
 -- the t of a table of n words, where n is 2 ^ t: the zero bits below n's lowest set bit
 unfoldable pub tOf : ℕ → ℕ
@@ -48,9 +48,13 @@ formNumber b =
     ∷ unless (fillerStands b) 6
     ∷ [])
 
--- the number for checking the block b: its form's
+-- the number for checking the block b: its form's, then 13 where a counted code is padded
 unfoldable pub blockNumber : List ℕ → ℕ
-blockNumber b = formNumber b
+blockNumber b =
+    firstFailure
+    (formNumber b
+    ∷ unless (nonePadded (codedIn b)) 13
+    ∷ [])
 
 -- the number for unpacking the block b, with tables of f and d words, into room for some words: 1, then check's, then 3
 unfoldable pub unpackNumber : List ℕ → ℕ → ℕ → ℕ → ℕ

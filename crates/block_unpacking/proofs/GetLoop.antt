@@ -6,22 +6,22 @@ use native.Mathlib.Omega.{arith}
 use native.Mathlib.Numerals.{add-one}
 use lib.Bits.{bitXor, xor-zero-l}
 use lib.ListN.{length, getD, set, replicate, length-set, drop}
-use lib.Seq.{sets, drop-drop}
+use lib.Seq.{sets}
 use borrow.Author.Tests.{lt-ltb, le-ltb}
 use Rattle.words.specs.Words.{add64, xor}
 use Rattle.words.specs.Bytes.{field}
 use Rattle.answers.proofs.Checks.{sets-over}
 use Rattle.block_rules.specs.Predictors.{Memory, cleared, fcmPrediction, dfcmPrediction, learn, after}
 use Rattle.block_rules.specs.Codes.{namedPrediction, written, decodedWord, decodedWords}
-use Rattle.block_rules.specs.Block.{count, halves, countedCodes, residualLength, withResiduals, residualsAt, codedIn, wordsIn}
+use Rattle.block_rules.specs.Block.{count, halves, countedCodes, residualLength, residualsAt, codedIn, wordsIn}
 use Rattle.block_rules.specs.Numbers.{tOf}
-use Rattle.block_rules.specs.Inside.{memory, Ready, Unpackable, UnpacksAll}
+use Rattle.block_rules.specs.Inside.{memory, Ready, codedAt, Unpackable, UnpacksAll}
 use Rattle.block_rules.specs.declared.Carry.{Carry}
 use Rattle.block_rules.specs.declared.Coded.{Coded}
 use Rattle.block_rules.proofs.Learn.{ready-learn, start, cleared-is, ready-start, cleared-of}
 use Rattle.block_rules.proofs.Accept.{whole, counted}
-use Rattle.block_rules.proofs.Get.{counted-next, counted-none, length-words}
-use Rattle.block_unpacking.specs.Inside.{codedAt, Decodable, GetsWord, Getting, Gets}
+use Rattle.block_rules.proofs.Get.{rest, rest-next, span-next, rest-none, length-words}
+use Rattle.block_unpacking.specs.Inside.{Decodable, GetsWord, Getting, Gets}
 use Rattle.block_unpacking.specs.declared.Place.{Place}
 
 pub named-fcm : (m : Memory) (c p : ℕ) → c < 8 → p ≡ getD (m .fcm) (m .fcmHash) 0 → p ≡ namedPrediction m c
@@ -39,10 +39,6 @@ predicted-whole b at code k p e z = rw (← e, z) (sym (xor-zero-l p))
 pub corrected-by : (b : List ℕ) (at code k x p : ℕ) → k ≡ written code → x ≡ field k at b → bitXor x p ≡ xor (field (written code) at b) p
 unfolding xor
 corrected-by b at code k x p e f = rw (f, e)
-
--- the codes and residuals from code i and the byte at a place on
-abbrev pub rest : List ℕ → ℕ → ℕ → List Coded
-rest b i at = withResiduals (drop i (countedCodes b)) (drop at b)
 
 -- Finishing from here, over the codes from i on, leaves what the whole run leaves.
 pub record Going (b : List ℕ) (n : ℕ) (f₀ d₀ words₀ f d words : List ℕ) (at : ℕ) (c : Carry) (i : ℕ) : Type 0 where
@@ -90,13 +86,13 @@ module _ (b : List ℕ) (n : ℕ) (f₀ d₀ words₀ f d words : List ℕ) (at 
     (p : Getting b n f₀ d₀ words₀) where
   -- the residual bytes of the next code end within the block
   pub code-within : (code : ℕ) → i < n → code ≡ getD (halves (drop 8 b)) i 0 → at + written code ≤ length b
-  code-within code h e = omega (arith, rw (counted-next b n i (counted b n (p .whole) (p .count)) h) at (g .bytes), ap written e)
+  code-within code h e = omega (arith, span-next b n i at code (counted b n (p .whole) (p .count)) h e (g .bytes))
 
   -- so do those of the next two, in whichever order they are read
   pub codes-within : (one two : ℕ) → i + 1 < n → one ≡ getD (halves (drop 8 b)) i 0 → two ≡ getD (halves (drop 8 b)) (i + 1) 0 → at + written one + written two ≤ length b
   codes-within one two h e q =
       let k = counted b n (p .whole) (p .count) in
-      omega (arith, rw (counted-next b n i k (omega arith), counted-next b n (i + 1) k h) at (g .bytes), ap written e, ap written q)
+      omega (arith, span-next b n (i + 1) (at + written one) two k h q (span-next b n i at one k (omega arith) e (g .bytes)))
 
   -- a word can be read where its residual bytes end within the block
   pub going-next : (code : ℕ) → i < n → at + written code ≤ length b → (Decodable b at code f d c) × (i < length words)
@@ -116,9 +112,9 @@ module _ (b : List ℕ) (n : ℕ) (f₀ d₀ words₀ f d words : List ℕ) (at 
   going-on f' d' words' r code h e s =
       let t = tOf (length f₀) in
       let m₀ = memory f d c in
-      let dc : drop i (countedCodes b) ≡ code ∷ drop (i + 1) (countedCodes b) = counted-next b n i (counted b n (p .whole) (p .count)) h ∙ rw e in
+      let k = counted b n (p .whole) (p .count) in
       let w : Coded = codedAt b at code in
-      let z : rest b i at ≡ w ∷ rest b (i + 1) (r .at) = rw (dc, s .next, ← (drop-drop (written code) at b)) in
+      let z : rest b i at ≡ w ∷ rest b (i + 1) (r .at) = rw (s .next) (rest-next b n i at code k h e) in
       let m : memory f' d' (r .carry) ≡ learn t m₀ (decodedWord m₀ w) = s .learnt ∙ ap (λ (l : ℕ). learn (tOf l) m₀ (decodedWord m₀ w)) (g .fcmLong) in
       let l = learnt-long (tOf (length f)) f d f' d' c (r .carry) (decodedWord m₀ w) (s .learnt) in
       record {
@@ -128,7 +124,7 @@ module _ (b : List ℕ) (n : ℕ) (f₀ d₀ words₀ f d words : List ℕ) (at 
         wordsLong = ap length (s .word) ∙ length-set words i _ ∙ g .wordsLong;
         ready = ready-learn f d f' d' c (r .carry) (decodedWord m₀ w) (g .ready) (s .learnt);
         past = omega (arith, g .past, s .next);
-        bytes = omega (arith, s .next, rw dc at (g .bytes));
+        bytes = omega (arith, s .next, span-next b n i at code k h e (g .bytes));
         state = rw m (rw z at (g .state));
         all = rw (m, s .word, add-one i) (rw (z, add-one i) at (g .all));
       }
@@ -136,7 +132,7 @@ module _ (b : List ℕ) (n : ℕ) (f₀ d₀ words₀ f d words : List ℕ) (at 
   pub going-ends : n ≤ i → Gets (tOf (length f₀)) b words₀ f d words
   going-ends h =
       let t = tOf (length f₀) in
-      let e : rest b i at ≡ [] = rw (counted-none b n i (counted b n (p .whole) (p .count)) h) in
+      let e : rest b i at ≡ [] = rest-none b n i at (counted b n (p .whole) (p .count)) h in
       let m : memory f d c ≡ after t (cleared t) (wordsIn t b) = rw e at (g .state) in
       record { fcm = ap (λ (x : Memory). x .fcm) m; dfcm = ap (λ (x : Memory). x .dfcm) m; words = rw e at (g .all) }
 

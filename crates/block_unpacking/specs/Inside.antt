@@ -4,20 +4,14 @@ use Prim.Native.Nat.{ℕ, _+_, _≤_}
 use mathlib.Core.List.{List}
 use lib.ListN.{length, set}
 use lib.Seq.{sets}
-use Rattle.words.specs.Bytes.{field}
 use Rattle.block_rules.specs.Predictors.{Memory, cleared, learn, after}
 use Rattle.block_rules.specs.Codes.{written, decodedWord}
 use Rattle.block_rules.specs.Block.{wordsIn}
 use Rattle.block_rules.specs.Block as Block
 use Rattle.block_rules.specs.Numbers.{blockNumber}
-use Rattle.block_rules.specs.Inside.{memory, Ready, Cleared}
+use Rattle.block_rules.specs.Inside.{memory, Ready, Cleared, codedAt}
 use Rattle.block_rules.specs.declared.Carry.{Carry}
-use Rattle.block_rules.specs.declared.Coded.{Coded}
 use Rattle.block_unpacking.specs.declared.Place.{Place}
-
--- a code with its residual, whose bytes start at a place
-abbrev pub codedAt : List ℕ → ℕ → ℕ → Coded
-codedAt b at code = record { code = code; residual = field (written code) at b }
 
 -- the word of a code can be decoded: its residual bytes start at a place of the block, with eight bytes before them
 pub record Decodable (b : List ℕ) (at code : ℕ) (f d : List ℕ) (c : Carry) : Type 0 where

@@ -1,6 +1,7 @@
 -- What is promised of pack, check and unpack, each promise with one line of plain words.
 use mathlib.Core.Path.{_≡_, sym, ap, _∙_}
 use mathlib.Core.Logic.{_↔_}
+use mathlib.Core.Bool.{true}
 use mathlib.Core.List.{List, [], _∷_, List·Mem, mem-cast}
 use Prim.Native.Nat.{ℕ, _+_, _%_, _^_, _≤_}
 use lib.ListN.{length, take}
@@ -10,7 +11,7 @@ use Rattle.answers.specs.Answers.{over}
 use Rattle.answers.proofs.Checks.{afterwards-old}
 use Rattle.block_rules.specs.Predictors.{cleared, after}
 use Rattle.block_rules.specs.Codes.{Choice, dfcmChosen, dfcmChosenByBytes}
-use Rattle.block_rules.specs.Block.{blockBy, block, worst, count, statedLength, residualsAt, countedCodes, lastHalf, residualLength}
+use Rattle.block_rules.specs.Block.{blockBy, block, worst, count, statedLength, residualsAt, countedCodes, lastHalf, residualLength, codedIn, nonePadded}
 use Rattle.block_rules.specs.Room.{Cut, bound, closerBound}
 use Rattle.block_rules.specs.Calls.{packed, packsNumber, Packs, checked, Unpacks}
 use Rattle.block_rules.specs.Numbers.{tOf, tablesNumber}
@@ -19,7 +20,7 @@ use Rattle.block_rules.specs.declared.Packed.{Packed}
 use Rattle.block_rules.specs.declared.Checked.{Checked}
 use Rattle.block_rules.specs.declared.Unpacked.{Unpacked}
 use Rattle.block_rules.proofs.Tables.{t-of-power, sized-power, tables-sized, sized-tables}
-use Rattle.block_rules.proofs.Accept.{packable, packable-packs, takes-form, whole, whole-checks, unpackable, unpackable-unpacks, packs-number, checks-number, packs-all-of, where-number, where-all, where-nothing, where-one-answer, where-forgets, unpacked-of, check-done, filler-needs, filler-has}
+use Rattle.block_rules.proofs.Accept.{packable, packable-packs, takes-form, takes-tight, tight-takes, whole, whole-forms, unpackable, unpackable-unpacks, packs-number, checks-number, packs-all-of, where-number, where-all, where-nothing, where-one-answer, where-forgets, unpacked-of, check-done, filler-needs, filler-has}
 use Rattle.block_rules.proofs.Answered.{pack-one-of, block-one-of, unpack-one-of}
 use Rattle.block_rules.proofs.Round.{chosen-count, chosen-whole, chosen-words, written-block, given-words}
 use Rattle.block_rules.proofs.Claims.{no-block-is-shorter, block-within-bound, block-within-worst, block-within-closer-bound}
@@ -100,13 +101,14 @@ pub record PackTakes (words fcm dfcm out : List ℕ) : Type 0 where
   pub few : length words ≤ 65536
   pub room : worst (length words) ≤ length out
 
--- what check needs: the two fields, a count in range, the length stated and kept, and the filler
+-- what check needs: the two fields, a count in range, the length stated and kept, the filler, and no counted code that is padded
 pub record CheckTakes (b : List ℕ) : Type 0 where
   pub long : 8 ≤ length b
   pub few : count b ≤ 65536
   pub stated : statedLength b ≡ length b
   pub kept : length b ≡ residualsAt (count b) + residualLength (countedCodes b)
   pub filler : count b % 2 ≡ 1 → lastHalf b ≡ 7
+  pub tight : nonePadded (codedIn b) ≡ true
 
 -- what unpack needs: tables, a block that check takes, room for its words
 pub record UnpackTakes (b fcm dfcm words : List ℕ) : Type 0 where
@@ -124,8 +126,13 @@ pack-accepts p = (
 -- Check answers 0 just where it has what it needs.
 pub check-accepts : (b : List ℕ) → (checked b .number ≡ 0) ↔ CheckTakes b
 check-accepts b = (
-  (λ e. let w = whole b (sym (checks-number b) ∙ e) in record { long = w .long; few = w .few; stated = w .stated; kept = w .adds; filler = filler-needs b (w .filler) }),
-  (λ k. checks-number b ∙ whole-checks b (record { long = k .long; few = k .few; stated = k .stated; adds = k .kept; filler = filler-has b (k .filler) })),
+  (λ e.
+      let z = sym (checks-number b) ∙ e in
+      let w = whole b z in
+      record { long = w .long; few = w .few; stated = w .stated; kept = w .adds; filler = filler-needs b (w .filler); tight = takes-tight b z }),
+  (λ k.
+      let formed = whole-forms b (record { long = k .long; few = k .few; stated = k .stated; adds = k .kept; filler = filler-has b (k .filler) }) in
+      checks-number b ∙ tight-takes b formed (k .tight)),
 )
 
 -- Unpack answers 0 just where it has what it needs.
@@ -145,12 +152,12 @@ tables-accepted fcm dfcm = ((λ e. tables-of fcm dfcm (tables-sized _ _ e)), (λ
 pub pack-numbers : {words fcm dfcm out f' d' out' : List ℕ} {r : Packed} → Packs words fcm dfcm out r f' d' out' → List·Mem (r .number) (0 ∷ 1 ∷ 2 ∷ 3 ∷ [])
 pack-numbers p = mem-cast (packs-number p) (pack-one-of _ _ _ _)
 
--- Check answers 0, 4, 2, 5 or 6.
-pub check-numbers : (b : List ℕ) → List·Mem (checked b .number) (0 ∷ 4 ∷ 2 ∷ 5 ∷ 6 ∷ [])
+-- Check answers 0, 4, 2, 5, 6 or 13.
+pub check-numbers : (b : List ℕ) → List·Mem (checked b .number) (0 ∷ 4 ∷ 2 ∷ 5 ∷ 6 ∷ 13 ∷ [])
 check-numbers b = mem-cast (checks-number b) (block-one-of b)
 
 -- Unpack answers 0, 1, one of check's numbers, or 3.
-pub unpack-numbers : {b fcm dfcm words f' d' w' : List ℕ} {r : Unpacked} → Unpacks b fcm dfcm words r f' d' w' → List·Mem (r .number) (0 ∷ 1 ∷ 4 ∷ 2 ∷ 5 ∷ 6 ∷ 3 ∷ [])
+pub unpack-numbers : {b fcm dfcm words f' d' w' : List ℕ} {r : Unpacked} → Unpacks b fcm dfcm words r f' d' w' → List·Mem (r .number) (0 ∷ 1 ∷ 4 ∷ 2 ∷ 5 ∷ 6 ∷ 13 ∷ 3 ∷ [])
 unpack-numbers p = mem-cast (where-number p) (unpack-one-of _ _ _ _)
 
 -- ---- what the tables held before plays no part
@@ -182,12 +189,12 @@ abbrev pub writtenBlock : Packed → List ℕ → List ℕ
 writtenBlock r out' = take (r .length) out'
 
 -- Every block that pack writes is accepted by check, with the count of the words.
-pub packed-checks : {words fcm dfcm out f' d' out' : List ℕ} {r : Packed} → Packs words fcm dfcm out r f' d' out' → r .number ≡ 0
+pub packed-checks : {words fcm dfcm out f' d' out' : List ℕ} {r : Packed} → Words words → Packs words fcm dfcm out r f' d' out' → r .number ≡ 0
     → checked (writtenBlock r out') ≡ record { number = 0; count = length words }
 unfolding block
-packed-checks p e =
+packed-checks h p e =
     let few = packable _ _ _ _ (sym (packs-number p) ∙ e) .few in
-    rw (written-block (packs-all-of p e)) (sym (check-done _ _ (chosen-whole dfcmChosen _ _ few) (sym (chosen-count dfcmChosen _ _ few))))
+    rw (written-block (packs-all-of p e)) (sym (check-done _ _ (chosen-whole dfcmChosen _ _ few h) (sym (chosen-count dfcmChosen _ _ few))))
 
 -- the block of words by any choice, unpacked with tables of the size that it was packed with
 there-and-back : (choice : Choice) (t : ℕ) (words : List ℕ) {fcm dfcm room fcm' dfcm' room' : List ℕ} {r : Unpacked} → Words words → length words ≤ 65536
@@ -196,7 +203,7 @@ there-and-back : (choice : Choice) (t : ℕ) (words : List ℕ) {fcm dfcm room f
 there-and-back choice t words h few u sized is l =
     let back = chosen-words choice t words few h in
     let n = chosen-count choice t words few in
-    let z = where-number u ∙ unpackable-unpacks _ _ _ _ (record { sized = sized; whole = chosen-whole choice t words few; room = rw n l }) in
+    let z = where-number u ∙ unpackable-unpacks _ _ _ _ (record { sized = sized; whole = chosen-whole choice t words few h; room = rw n l }) in
     let g = rw is at (where-all u z) in
     (unpacked-of _ _ _ z (g .count ∙ n), g .words ∙ rw back, g .fcm ∙ rw back, g .dfcm ∙ rw back)
 

@@ -11,13 +11,14 @@ use Rattle.words.specs.Bytes.{Bytes}
 use Rattle.answers.specs.Answers.{afterwards, over}
 use Rattle.answers.proofs.Checks.{afterwards-new}
 use Rattle.block_rules.specs.Codes.{dfcmChosenByBytes}
-use Rattle.block_rules.specs.Block.{blockBy}
-use Rattle.block_rules.specs.Numbers.{blockNumber}
+use Rattle.block_rules.specs.Block.{blockBy, codedIn, wordsIn}
+use Rattle.block_rules.specs.Numbers.{formNumber, blockNumber}
+use Rattle.block_rules.specs.Forms.{HasPadded, named}
 use Rattle.block_rules.specs.declared.Packed.{Packed}
 use Rattle.block_rules.specs.declared.Checked.{Checked}
 use Rattle.block_rules.specs.declared.Unpacked.{Unpacked}
-use Rattle.block_rules.proofs.Accept.{checks-number}
-use Rattle.block_rules.proofs.Claims.{packed-before-checks}
+use Rattle.block_rules.proofs.Accept.{takes-form, checks-number}
+use Rattle.block_rules.proofs.Claims.{packed-before-checks, padded-answers, one-form}
 use Rattle.blocks.proofs.Claims.{Tables, round-trip, packed-before-unpacks, pack-is-shortest, pack-numbers, check-numbers, unpack-numbers, pack-one-answer, unpack-one-answer, pack-forgets, unpack-forgets, refused-pack-changes-nothing, refused-unpack-changes-nothing}
 use Rattle.exam_rules.specs.File.{Entry, fileLength, fileBytes, blockOf, empty}
 use Rattle.exam_rules.specs.Pieces.{fileOfPieces}
@@ -138,7 +139,7 @@ all-whole c l asked w slot z =
 -- coil_check, and coil_fetch unpacks none that does not pass.
 pub coil-cut-is-never-whole : {exam t : ℕ} {ms : List Map} {b : List ℕ} {l : ℕ} → MadeOf exam t ms b l → (k : ℕ) → k < l → (c : List ℕ) → take k c ≡ take k b
     → (asked : ℕ) → CoilOpens c k asked 0 → ((slot offset size : ℕ) → CoilFinds c k asked slot 0 offset size → CoilChecks (take size (drop offset c)) 0) → ⊥
-coil-cut-is-never-whole m k short c same asked o w = cut-is-never-whole m k short c same asked (sym o) (all-whole c k asked w)
+coil-cut-is-never-whole m k short c same asked o w = cut-is-never-whole m k short c same asked (sym o) (λ slot z. takes-form _ (all-whole c k asked w slot z))
 
 -- ---- no block is shorter
 
@@ -150,11 +151,23 @@ pub coil-pack-is-shortest : {words fcm dfcm out f' d' out' b f₂ d₂ room f₂
     → l ≤ length b
 coil-pack-is-shortest p e h u same z gives = pack-is-shortest p e h u same z gives
 
+-- ---- padded codes, and the one form of a block
+
+-- coil_check answers 13 just where 4, 2, 5 and 6 do not answer and one of the counted codes is padded.
+pub coil-padded-answers : (b : List ℕ) {r : ℕ} → CoilChecks b r → (r ≡ 13) ↔ ((formNumber b ≡ 0) × HasPadded (codedIn b))
+coil-padded-answers b c =
+    let k = padded-answers b in
+    ((λ e. k .0 (sym c ∙ e)), (λ h. c ∙ k .1 h))
+
+-- Two blocks that coil_check takes, that read as the same words with tables of the same size and name the same predictor at each word, are the same bytes.
+pub coil-one-form : (t : ℕ) (b c : List ℕ) {r s : ℕ} → Bytes b → Bytes c → CoilChecks b r → CoilChecks c s → r ≡ 0 → s ≡ 0 → wordsIn t b ≡ wordsIn t c → named b ≡ named c → b ≡ c
+coil-one-form t b c h k p q e f ws ns = one-form t b c h k (sym p ∙ e) (sym q ∙ f) ws ns
+
 -- ---- what was packed before request L2, when dfcm was chosen by leading zero bytes
 
 -- coil_check takes a block that was packed before.
-pub coil-packed-before-checks : (t : ℕ) (words : List ℕ) {r : ℕ} → length words ≤ 65536 → CoilChecks (blockBy dfcmChosenByBytes t words) r → r ≡ 0
-coil-packed-before-checks t words few c = c ∙ ap (λ (x : Checked). x .number) (packed-before-checks t words few)
+pub coil-packed-before-checks : (t : ℕ) (words : List ℕ) {r : ℕ} → length words ≤ 65536 → Words words → CoilChecks (blockBy dfcmChosenByBytes t words) r → r ≡ 0
+coil-packed-before-checks t words few h c = c ∙ ap (λ (x : Checked). x .number) (packed-before-checks t words few h)
 
 -- coil_unpack gives its words back, with tables of the size that it was packed with.
 pub coil-packed-before-unpacks : (words : List ℕ) {fcm dfcm room f' d' room' : List ℕ} {r n : ℕ} (k : Tables fcm dfcm) → Words words → length words ≤ 65536
@@ -191,7 +204,7 @@ coil-earlier-fetches first m rest k c lf ld enough = told (earlier-fetches first
 -- Nor are all blocks whole where such a file was cut and opens.
 pub coil-earlier-cut-is-never-whole : {exam t : ℕ} {ms : List Map} {b : List ℕ} {l : ℕ} → MadeBefore exam t ms b l → (k : ℕ) → k < l → (c : List ℕ) → take k c ≡ take k b
     → (asked : ℕ) → CoilOpens c k asked 0 → ((slot offset size : ℕ) → CoilFinds c k asked slot 0 offset size → CoilChecks (take size (drop offset c)) 0) → ⊥
-coil-earlier-cut-is-never-whole m k short c same asked o w = earlier-cut-is-never-whole m k short c same asked (sym o) (all-whole c k asked w)
+coil-earlier-cut-is-never-whole m k short c same asked o w = earlier-cut-is-never-whole m k short c same asked (sym o) (λ slot z. takes-form _ (all-whole c k asked w slot z))
 
 -- ---- every number is one of the call's list
 
@@ -199,12 +212,12 @@ coil-earlier-cut-is-never-whole m k short c same asked o w = earlier-cut-is-neve
 pub coil-pack-numbers : {words fcm dfcm out f' d' out' : List ℕ} {r l : ℕ} → CoilPacks words fcm dfcm out r f' d' out' l → List·Mem r (0 ∷ 1 ∷ 2 ∷ 3 ∷ [])
 coil-pack-numbers c = pack-numbers c
 
--- coil_check answers 0, 4, 2, 5 or 6.
-pub coil-check-numbers : (b : List ℕ) {r : ℕ} → CoilChecks b r → List·Mem r (0 ∷ 4 ∷ 2 ∷ 5 ∷ 6 ∷ [])
+-- coil_check answers 0, 4, 2, 5, 6 or 13.
+pub coil-check-numbers : (b : List ℕ) {r : ℕ} → CoilChecks b r → List·Mem r (0 ∷ 4 ∷ 2 ∷ 5 ∷ 6 ∷ 13 ∷ [])
 coil-check-numbers b c = mem-cast c (check-numbers b)
 
 -- coil_unpack answers 0, 1, one of coil_check's numbers, or 3.
-pub coil-unpack-numbers : {b fcm dfcm words f' d' w' : List ℕ} {r n : ℕ} → CoilUnpacks b fcm dfcm words r f' d' w' n → List·Mem r (0 ∷ 1 ∷ 4 ∷ 2 ∷ 5 ∷ 6 ∷ 3 ∷ [])
+pub coil-unpack-numbers : {b fcm dfcm words f' d' w' : List ℕ} {r n : ℕ} → CoilUnpacks b fcm dfcm words r f' d' w' n → List·Mem r (0 ∷ 1 ∷ 4 ∷ 2 ∷ 5 ∷ 6 ∷ 13 ∷ 3 ∷ [])
 coil-unpack-numbers c = unpack-numbers c
 
 -- coil_create answers 0, 8, 7 or 3.
@@ -221,7 +234,7 @@ coil-find-numbers b l exam slot c = mem-cast (ap (λ (x : Located). x .number) c
 
 -- coil_fetch answers 0, one of coil_find's numbers, 1, one of coil_check's, or 3.
 pub coil-fetch-numbers : {b : List ℕ} {l exam slot : ℕ} {fcm dfcm words f' d' w' : List ℕ} {r n : ℕ} → CoilFetches b l exam slot fcm dfcm words r f' d' w' n
-    → List·Mem r (0 ∷ 4 ∷ 7 ∷ 8 ∷ 9 ∷ 10 ∷ 1 ∷ 2 ∷ 5 ∷ 6 ∷ 3 ∷ [])
+    → List·Mem r (0 ∷ 4 ∷ 7 ∷ 8 ∷ 9 ∷ 10 ∷ 1 ∷ 2 ∷ 5 ∷ 6 ∷ 13 ∷ 3 ∷ [])
 coil-fetch-numbers c = fetch-numbers c
 
 -- coil_append answers 0, one of coil_open's numbers, 12, 11, 1, 2 or 3.

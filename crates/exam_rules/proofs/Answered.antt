@@ -56,7 +56,7 @@ unfolding fileTablesNumber
 tables-one-of t f d = check-one-of _ 1 _ (check-one-of _ 1 _ (no-check-one-of _) refl) refl
 
 pub fetch-one-of : (b : List ℕ) (l exam slot f d room : ℕ)
-    → List·Mem (fetchNumber b l exam slot f d room) (0 ∷ 4 ∷ 7 ∷ 8 ∷ 9 ∷ 10 ∷ 1 ∷ 2 ∷ 5 ∷ 6 ∷ 3 ∷ [])
+    → List·Mem (fetchNumber b l exam slot f d room) (0 ∷ 4 ∷ 7 ∷ 8 ∷ 9 ∷ 10 ∷ 1 ∷ 2 ∷ 5 ∷ 6 ∷ 13 ∷ 3 ∷ [])
 unfolding fetchNumber foundNumber
 fetch-one-of b l exam slot f d room =
     verdict-one-of _ _ (one-of-more _ _ (find-one-of b l exam slot) refl)

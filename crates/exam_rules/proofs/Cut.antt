@@ -12,8 +12,8 @@ use Rattle.words.proofs.Each.{more}
 use Rattle.words.proofs.Moves.{same-equal}
 use Rattle.answers.proofs.Checks.{unless-holds}
 use Rattle.block_rules.specs.Block.{count, statedLength}
-use Rattle.block_rules.specs.Numbers.{blockNumber}
-use Rattle.block_rules.proofs.Accept.{whole, stated-first}
+use Rattle.block_rules.specs.Numbers.{formNumber, blockNumber}
+use Rattle.block_rules.proofs.Accept.{form-tells, whole, stated-first}
 use Rattle.exam_rules.specs.File.{Entry, entry, entryBytes, directoryBytes, mark, trailerBytes, fileLength, fileBytes, blockOf}
 use Rattle.exam_rules.specs.Reading.{markIn, directoryAt, entriesIn, entryAt, entriesAt, fileIn, entryOf}
 use Rattle.exam_rules.specs.Numbers.{joins, entriesNumber, openInNumber, findNumber, blockIn}
@@ -54,15 +54,15 @@ module _ (b tail : List ℕ) (k to : ℕ) (long : k ≤ length b) (inside : to �
     pub many : length es + length pieces ≡ length ps
 
   -- a whole block of the part states its size in the file's own bytes
-  states-size : (offset size : ℕ) → offset + size ≤ to → 8 ≤ size → blockNumber (take size (drop offset (take to (take k b)))) ≡ 0 → statedLength (drop offset b) ≡ size
+  states-size : (offset size : ℕ) → offset + size ≤ to → 8 ≤ size → formNumber (take size (drop offset (take to (take k b)))) ≡ 0 → statedLength (drop offset b) ≡ size
   states-size offset size end h w =
       let x = take size (drop offset (take to (take k b))) in
       let x-is : x ≡ take size (drop offset b) = part-of-first size offset to (take k b) end ∙ part-of-first size offset k b (omega arith) in
       let lx : length (take size (drop offset b)) ≡ size = length-take-le size (drop offset b) (simp length-drop (omega arith)) in
-      sym (ap number (part-of-first 4 4 size (drop offset b) (omega arith))) ∙ (rw x-is at (whole x w .stated)) ∙ lx
+      sym (ap number (part-of-first 4 4 size (drop offset b) (omega arith))) ∙ (rw x-is at (form-tells x w .stated)) ∙ lx
 
   walk : (es : List Entry) (ps : List Piece) (lowest from : ℕ) → Wholes ps → entriesNumber joins lowest from es to ≡ 0
-      → ((i : ℕ) → i < length es → blockNumber (take (getD es i (entry 0 0 0) .size) (drop (getD es i (entry 0 0 0) .offset) (take to (take k b)))) ≡ 0)
+      → ((i : ℕ) → i < length es → formNumber (take (getD es i (entry 0 0 0) .size) (drop (getD es i (entry 0 0 0) .offset) (take to (take k b)))) ≡ 0)
       → drop from b ≡ blocksOf ps ++ tail → Rest ps es
   walk [] ps lowest from ws z w e =
       let q : from ≡ to = joins-equal from to (unless-holds _ _ z (omega arith)) in
@@ -151,7 +151,7 @@ module _ (exam t : ℕ) (ps : List Piece) {b : List ℕ} {l : ℕ} (h : Holds b 
       let c = ap statedLength (e ∙ append-assoc (p .block) (blocksOf left) tail) ∙ block-states (p .block) (blocksOf left ++ tail) v in
       omega (arith, c, directory-states b k asked z n (sym q), whole (p .block) v .long)
 
-  never : ((i : ℕ) → i < length (fileIn first .entries) → blockNumber (blockOf (fileIn first) (getD (fileIn first .entries) i (entry 0 0 0))) ≡ 0) → ⊥
+  never : ((i : ℕ) → i < length (fileIn first .entries) → formNumber (blockOf (fileIn first) (getD (fileIn first .entries) i (entry 0 0 0))) ≡ 0) → ⊥
   unfolding fileIn blockOf
   never w =
       let i = o b k asked z in
@@ -162,11 +162,11 @@ module _ (exam t : ℕ) (ps : List Piece) {b : List ℕ} {l : ℕ} (h : Holds b 
 
 -- ---- the same of a copy, slot by slot
 
--- where the blocks of all slots that are found are whole, so is the block of each entry
-pub each-whole : (b : List ℕ) (l exam : ℕ) → openInNumber b l exam ≡ 0 → ((s : ℕ) → findNumber b l exam s ≡ 0 → blockNumber (blockIn b l s) ≡ 0)
-    → (i : ℕ) → i < length (fileIn (take l b) .entries) → blockNumber (blockOf (fileIn (take l b)) (getD (fileIn (take l b) .entries) i (entry 0 0 0))) ≡ 0
+-- what holds of the blocks of all slots that are found holds of the block of each entry
+pub each-found : (P : List ℕ → Type 0) (b : List ℕ) (l exam : ℕ) → openInNumber b l exam ≡ 0 → ((s : ℕ) → findNumber b l exam s ≡ 0 → P (blockIn b l s))
+    → (i : ℕ) → i < length (fileIn (take l b) .entries) → P (blockOf (fileIn (take l b)) (getD (fileIn (take l b) .entries) i (entry 0 0 0)))
 unfolding blockIn entryOf
-each-whole b l exam z w i below =
+each-found P b l exam z w i below =
     let f = fileIn (take l b) in
     let e = getD (f .entries) i (entry 0 0 0) in
     let index = index-of-entry f i (entry 0 0 0) (opens-in b l exam z .is .directory) below in
@@ -179,5 +179,5 @@ module _ (exam t : ℕ) (ps : List Piece) {b : List ℕ} {l : ℕ} (h : Holds b 
   opens-there : openInNumber b k asked ≡ 0
   opens-there = opens-in-keep b k asked (omega (arith, h .within)) (rw (← same) (opens-in c k asked z .is))
 
-  pub never-all-whole : ((s : ℕ) → findNumber c k asked s ≡ 0 → blockNumber (blockIn c k s) ≡ 0) → ⊥
-  never-all-whole w = never exam t ps h ws k asked short opens-there (rw (← same) (each-whole c k asked z w))
+  pub never-all-whole : ((s : ℕ) → findNumber c k asked s ≡ 0 → formNumber (blockIn c k s) ≡ 0) → ⊥
+  never-all-whole w = never exam t ps h ws k asked short opens-there (rw (← same) (each-found (λ (x : List ℕ). formNumber x ≡ 0) c k asked z w))

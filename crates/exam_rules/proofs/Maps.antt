@@ -40,7 +40,7 @@ pub record Fit (m : Map) : Type 0 where
 pub reads-by : (choice : Choice) (t : ℕ) (m : Map) → Fit m → ReadsAs t (blockBy choice t (m .words)) (m .words)
 reads-by choice t m f =
     record {
-      whole = chosen-whole choice t (m .words) (f .few);
+      whole = chosen-whole choice t (m .words) (f .few) (f .wide);
       many = chosen-count choice t (m .words) (f .few);
       reads = chosen-words choice t (m .words) (f .few) (f .wide);
     }

@@ -29,7 +29,7 @@ use Rattle.exam_rules.proofs.Opens.{OpensIn, opens-in, body-long, entri
 use Rattle.exam_rules.proofs.Parts.{part-of-first}
 use Rattle.exam_rules.proofs.Pieces.{Wholes, length-pieces, HoldsPiece, piece-found, piece-entry}
 use Rattle.exam_rules.proofs.Holds.{Holds, holds-length}
-use Rattle.exam_rules.proofs.Cut.{block-states, entries-state, directory-states, directory-counts, each-whole}
+use Rattle.exam_rules.proofs.Cut.{block-states, entries-state, directory-states, directory-counts, each-found}
 use Rattle.exam_rules.proofs.Salvage.{StandsWhole, stands-whole, whole-stands, stands-long, length-numbered, salvage-kept, salvage-holds, salvage-piece}
 
 -- ---- what stands at the start of a first part of bytes
@@ -218,7 +218,7 @@ module _ (b : List ℕ) (l exam : ℕ) (z : openInNumber b l exam ≡ 0) where
     pub intact-blocks : wholeBlocks 1024 b ≡ map (blockOf file) (file .entries)
     unfolding blockOf
     intact-blocks =
-        let ws = wholes-of (file .body) (file .entries) (each-whole b l exam z w) in
+        let ws = wholes-of (file .body) (file .entries) (each-found (λ (x : List ℕ). blockNumber x ≡ 0) b l exam z w) in
         let lp : length pieces ≡ length (file .entries) = length-map (file .entries) _ in
         let few : length pieces ≤ 1024 = omega (arith, lp, entries-many (take l b), opens-it .is .trailer .few) in
         let all : within (length b) pieces ≡ length pieces = all-within (length b) pieces (omega (arith, ap length split, length-append (blocksOf pieces) (drop start b))) in

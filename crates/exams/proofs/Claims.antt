@@ -19,7 +19,8 @@ use Rattle.answers.specs.Answers.{afterwards, over}
 use Rattle.answers.proofs.Checks.{fails-here, afterwards-new, afterwards-old}
 use Rattle.block_rules.specs.Codes.{Choice, dfcmChosen, dfcmChosenByBytes, Thrifty}
 use Rattle.block_rules.specs.Block.{blockBy, block, count, statedLength}
-use Rattle.block_rules.specs.Numbers.{blockNumber}
+use Rattle.block_rules.specs.Calls.{checked}
+use Rattle.block_rules.specs.Numbers.{formNumber, blockNumber}
 use Rattle.block_rules.specs.declared.Unpacked.{Unpacked}
 use Rattle.exam_rules.specs.File.{entry, File, fileLength, fileBytes, blockOf, empty, appended, replaced}
 use Rattle.exam_rules.specs.Reading.{tIn, examIn, distanceIn, entriesIn, lengthIn, fileIn, entryOf}
@@ -35,7 +36,7 @@ use Rattle.exam_rules.specs.declared.Filled.{Filled}
 use Rattle.exam_rules.specs.declared.Salvaged.{Salvaged}
 use Rattle.exam_rules.specs.declared.Opened.{Opened}
 use Rattle.exam_rules.specs.declared.Opened.the-variants.{Done, Refused}
-use Rattle.block_rules.proofs.Accept.{where-nothing, where-one-answer, where-forgets}
+use Rattle.block_rules.proofs.Accept.{checks-number, where-nothing, where-one-answer, where-forgets}
 use Rattle.exam_rules.proofs.Opens.{opens-in, t-in, body-long, entries-many}
 use Rattle.exam_rules.proofs.Changes.{append-stopped, change-one-answer, changes-number, changes-none}
 use Rattle.exam_rules.proofs.Accept.{OpenTakes, open-takes, takes-open, FindTakes, find-takes, takes-find, FetchTakes, fetch-takes, takes-fetch, takes-create, AppendTakes, append-takes, takes-append, ReplaceTakes, replace-takes, takes-replace, opened-number, opened-done, fetches-number, CreateTakes, create-takes, AppendAllTakes, foretold, foretold-takes, takes-foretold, SalvageTakes, salvage-takes, takes-salvage}
@@ -44,7 +45,7 @@ use Rattle.exam_rules.proofs.Holds.{Holds, holds-length, holds-parts, holds-ope
 use Rattle.exam_rules.proofs.Pieces.{Wholes, created-pieces, appended-pieces, block-fetched, piece-found, piece-handed, piece-fetched, pieces-tell}
 use Rattle.exam_rules.proofs.Maps.{Fit, reads-by, map-reads, maps-whole, maps-piece, alike-holds, changed-at, changed-maps, changed-fit, renumbered-fit}
 use Rattle.exam_rules.proofs.Cut.{directory-states, directory-counts, never-all-whole}
-use Rattle.exam_rules.proofs.Salvage.{length-numbered, blocks-whole, salvaged-is, salvaged-many, salvaged-few, salvaged-within, salvaged-stop, salvaged-ends, salvaged-long, salvaged-most, salvage-number, salvage-kept, salvage-left-over, salvage-body, salvage-length, salvage-bytes, salvage-first, salvage-renumbers, salvage-beyond, salvage-holds, salvage-piece, salvage-slot, salvage-place, salvage-empty}
+use Rattle.exam_rules.proofs.Salvage.{stands-whole, length-numbered, blocks-whole, salvaged-is, salvaged-many, salvaged-few, salvaged-within, salvaged-stop, salvaged-ends, salvaged-long, salvaged-most, salvage-number, salvage-kept, salvage-left-over, salvage-body, salvage-length, salvage-bytes, salvage-first, salvage-renumbers, salvage-beyond, salvage-holds, salvage-piece, salvage-slot, salvage-place, salvage-empty}
 use Rattle.exam_rules.proofs.Rescued.{directory-no-block, intact-blocks, intact-ends, cut-shorter, kept-most, cut-salvaged, those-within, those-kept}
 use Rattle.exam_rules.proofs.Kept.{found-long, found-size, found-within, found-part, more-holds, more-opens, slot-kept, slot-new}
 use Rattle.exam_rules.proofs.Filling.{words-of, record-numbered, record-refused, record-outside, append-to-record, record-to-append, each-none, each-one, all-opened}
@@ -211,7 +212,7 @@ locate-numbers b l exam slot = find-one-of b l exam slot
 
 -- Fetch answers 0, one of find's numbers, 1, one of check's, or 3.
 pub fetch-numbers : {b : List ℕ} {l exam slot : ℕ} {fcm dfcm words f' d' w' : List ℕ} {r : Unpacked} → Fetches b l exam slot fcm dfcm words r f' d' w'
-    → List·Mem (r .number) (0 ∷ 4 ∷ 7 ∷ 8 ∷ 9 ∷ 10 ∷ 1 ∷ 2 ∷ 5 ∷ 6 ∷ 3 ∷ [])
+    → List·Mem (r .number) (0 ∷ 4 ∷ 7 ∷ 8 ∷ 9 ∷ 10 ∷ 1 ∷ 2 ∷ 5 ∷ 6 ∷ 13 ∷ 3 ∷ [])
 fetch-numbers c = mem-cast (fetches-number c) (fetch-one-of _ _ _ _ _ _ _)
 
 -- Append answers 0, one of open's numbers, 12, 11, 1, 2 or 3.
@@ -442,9 +443,9 @@ earlier-fetches first m rest {exam} {t} k c lf ld enough =
     let reads = reads-by (k .choice m) t m (each-at first m rest (made-fit (k .made))) in
     piece-fetched (maps-piece (pieceBy (k .choice) t) exam t first m rest (earlier-holds k)) reads c lf ld enough
 
--- Cut such a file anywhere: where what is left opens, the blocks of its slots are never all whole.
+-- Cut such a file anywhere: where what is left opens, the blocks of its slots are never all whole. Of one at least the form is refused: by 4, 2, 5 or 6.
 pub earlier-cut-is-never-whole : {exam t : ℕ} {ms : List Map} {b : List ℕ} {l : ℕ} → MadeBefore exam t ms b l → (k : ℕ) → k < l → (c : List ℕ) → take k c ≡ take k b
-    → (asked : ℕ) → openedNumber (opened c k asked) ≡ 0 → ((slot : ℕ) → findNumber c k asked slot ≡ 0 → blockNumber (blockIn c k slot) ≡ 0) → ⊥
+    → (asked : ℕ) → openedNumber (opened c k asked) ≡ 0 → ((slot : ℕ) → findNumber c k asked slot ≡ 0 → formNumber (blockIn c k slot) ≡ 0) → ⊥
 earlier-cut-is-never-whole {exam} {t} {ms} m k short c same asked e w =
     never-all-whole exam t (map (pieceBy (m .choice) t) ms) (earlier-holds m) (earlier-wholes m) k asked short c same (sym (opened-number c k asked) ∙ e) w
 
@@ -827,9 +828,9 @@ pub fetched-is-whole : {b : List ℕ} {l exam slot : ℕ} {fcm dfcm words f' d' 
 fetched-is-whole c e = fetch-accepts c .0 e .whole
 
 -- Cut a file made by these calls anywhere, and let a buffer begin with what is left. Whatever number is asked, where it opens the blocks of its slots
--- are never all whole; and fetch unpacks none that is not whole.
+-- are never all whole: of one at least the form is refused, by 4, 2, 5 or 6. And fetch unpacks none that is not whole.
 pub cut-is-never-whole : {exam t : ℕ} {ms : List Map} {b : List ℕ} {l : ℕ} → MadeOf exam t ms b l → (k : ℕ) → k < l → (c : List ℕ) → take k c ≡ take k b
-    → (asked : ℕ) → openedNumber (opened c k asked) ≡ 0 → ((slot : ℕ) → findNumber c k asked slot ≡ 0 → blockNumber (blockIn c k slot) ≡ 0) → ⊥
+    → (asked : ℕ) → openedNumber (opened c k asked) ≡ 0 → ((slot : ℕ) → findNumber c k asked slot ≡ 0 → formNumber (blockIn c k slot) ≡ 0) → ⊥
 cut-is-never-whole {exam} {t} {ms} m k short c same asked e w =
     never-all-whole exam t (map (pieceOf t) ms) (made-holds m) (made-wholes m) k asked short c same (sym (opened-number c k asked) ∙ e) w
 
@@ -875,6 +876,11 @@ salvage-counts {old} {exam = exam} {t = t} c e =
 pub salvage-stops : {old b b' : List ℕ} {exam t : ℕ} {r : Salvaged} → Salvages old b exam t r b' → r .number ≡ 0
     → (r .kept ≡ 1024) ⊎ (blockStands (drop (length old - r .«left_over») old) ≡ false)
 salvage-stops {old} {exam = exam} {t = t} c e = rw (salvage-body c e, salvage-kept c e ∙ sym (salvaged-many old exam t)) (salvaged-stop old exam t)
+
+-- A padded block stands nowhere, so salvage stops at it.
+pub padded-never-stands : (bs : List ℕ) → checked (take (statedLength bs) bs) .number ≡ 13 → blockStands bs ≡ false
+padded-never-stands bs e =
+    either (blockStands bs) (λ q. absurd (omega (arith, e, checks-number (take (statedLength bs) bs), stands-whole bs q .checks))) (λ q. q)
 
 -- Its slots are 0, 1, 2 and so on, as many as blocks were kept, and no other.
 pub salvage-slots : {old b b' : List ℕ} {exam t : ℕ} {r : Salvaged} → exam < 2 ^ 64 → Salvages old b exam t r b' → r .number ≡ 0

@@ -12,8 +12,8 @@ use Rattle.answers.specs.Answers.{unless, firstFailure}
 use Rattle.answers.proofs.Checks.{afterwards-new, afterwards-old, told-within}
 use Rattle.answers.proofs.OneOf.{one-of-more, no-check-one-of, verdict-one-of, check-one-of}
 use Rattle.block_rules.specs.Predictors.{cleared, fcmPrediction, dfcmPrediction, difference, nextFcmHash, nextDfcmHash, learn}
-use Rattle.block_rules.specs.Codes.{fcmResidual, dfcmResidual, dfcmChosen, lowThree, written, codedBy, chosen, codedWord, residualBytes}
-use Rattle.block_rules.specs.Block.{arranged, blockBy, block, body, countedCodes, lastHalf}
+use Rattle.block_rules.specs.Codes.{fcmResidual, dfcmResidual, dfcmChosen, lowThree, written, codedBy, chosen, codedWord, residualBytes, padded}
+use Rattle.block_rules.specs.Block.{arranged, blockBy, block, body, countedCodes, lastHalf, codedIn}
 use Rattle.block_rules.specs.Calls.{checked}
 use Rattle.block_rules.specs.Numbers.{fillerStands, formNumber, blockNumber}
 use Rattle.block_rules.proofs.Accept.{checks-number}
@@ -54,7 +54,7 @@ worked-listing = refl
 
 -- It is refused with 88 bytes of room, and taken with 89.
 pub worked-number : (listNumber workedFile 88 ≡ 3) × (listNumber workedFile 89 ≡ 0)
-unfolding listNumber mostText openNumber trailerNumber fieldsNumber directoryNumber editionKnown joins fileIn entryAt blockOf blockNumber formNumber fillerStands lastHalf countedCodes written unless firstFailure
+unfolding listNumber mostText openNumber trailerNumber fieldsNumber directoryNumber editionKnown joins fileIn entryAt blockOf blockNumber formNumber fillerStands lastHalf countedCodes codedIn padded written unless firstFailure
 worked-number = (refl, refl)
 
 -- ---- no second answer
@@ -65,11 +65,11 @@ list-one-answer p q = (p .answer ∙ sym (q .answer), p .textLeft ∙ sym (q .te
 
 -- ---- every number is one of list's
 
-blocks-one-of : (f : File) (es : List Entry) → List·Mem (blocksNumber f es) (0 ∷ 4 ∷ 2 ∷ 5 ∷ 6 ∷ [])
+blocks-one-of : (f : File) (es : List Entry) → List·Mem (blocksNumber f es) (0 ∷ 4 ∷ 2 ∷ 5 ∷ 6 ∷ 13 ∷ [])
 blocks-one-of f [] = mem-cons-self
 blocks-one-of f (e ∷ es) = verdict-one-of _ _ (block-one-of (blockOf f e)) (verdict-one-of _ _ (blocks-one-of f es) (no-check-one-of _))
 
-list-one-of : (f : List ℕ) (room : ℕ) → List·Mem (listNumber f room) (0 ∷ 3 ∷ 4 ∷ 7 ∷ 8 ∷ 9 ∷ 2 ∷ 5 ∷ 6 ∷ [])
+list-one-of : (f : List ℕ) (room : ℕ) → List·Mem (listNumber f room) (0 ∷ 3 ∷ 4 ∷ 7 ∷ 8 ∷ 9 ∷ 2 ∷ 5 ∷ 6 ∷ 13 ∷ [])
 unfolding listNumber
 list-one-of f room =
     check-one-of _ 3 _
@@ -78,7 +78,7 @@ list-one-of f room =
     refl
 
 -- List answers 0, 3, one of open's numbers, or one of check's.
-pub list-numbers : {f text text' : List ℕ} {r : Listed} → Lists f text r text' → List·Mem (r .number) (0 ∷ 3 ∷ 4 ∷ 7 ∷ 8 ∷ 9 ∷ 2 ∷ 5 ∷ 6 ∷ [])
+pub list-numbers : {f text text' : List ℕ} {r : Listed} → Lists f text r text' → List·Mem (r .number) (0 ∷ 3 ∷ 4 ∷ 7 ∷ 8 ∷ 9 ∷ 2 ∷ 5 ∷ 6 ∷ 13 ∷ [])
 list-numbers p = mem-cast (lists-number p) (list-one-of _ _)
 
 -- ---- a refusal leaves everything as it was

@@ -1,7 +1,7 @@
 -- Bytes low first, and the number that they make.
 use mathlib.Core.Path.{_≡_, refl, ap, _∙_}
 use mathlib.Core.List.{List, [], _∷_, _++_}
-use Prim.Native.Nat.{ℕ, zero, suc, _+_, _-_, _*_, _/_, _^_, _≤_, _<_}
+use Prim.Native.Nat.{ℕ, zero, suc, _+_, _-_, _*_, _/_, _%_, _^_, _≤_, _<_}
 use native.Mathlib.Omega.{arith}
 use native.Mathlib.Nat.{zero-add, suc-add, mul-zero, mul-assoc, mul-comm, pow-suc, pow-succ', div-eq-of-lt, div-lt-iff-lt-mul, add-mul-div-left}
 use lib.ListN.{length, getD, take, drop}
@@ -42,6 +42,16 @@ number-low zero x h = omega arith
 number-low (suc k) x h =
     let l : x / 256 < 256 ^ k = div-lt-iff-lt-mul {k = 256} {x = x} {y = 256 ^ k} (omega arith) .1 (rw pow-suc at h) in
     rw (number-low k (x / 256) l) (omega arith)
+
+-- and k bytes are written back from their number
+pub low-number : (k : ℕ) (bs : List ℕ) → Bytes bs → length bs ≡ k → lowBytes k (number bs) ≡ bs
+low-number zero [] h l = refl
+low-number zero (b ∷ bs) h l = absurd (omega arith)
+low-number (suc k) [] h l = absurd (omega arith)
+low-number (suc k) (b ∷ bs) h l =
+    let e : (b + 256 * number bs) % 256 ≡ b = omega (arith, h 0) in
+    let q : (b + 256 * number bs) / 256 ≡ number bs = omega (arith, h 0) in
+    rw (e, q) (ap (λ (r : List ℕ). b ∷ r) (low-number k bs (λ i. h (suc i)) (omega arith)))
 
 -- k bytes make a number below 256 ^ k
 pub number-below : (k : ℕ) (bs : List ℕ) → Bytes bs → number (take k bs) < 256 ^ k

@@ -68,7 +68,7 @@ pub fn get_bytes(src: &[u8], at: usize, k: usize) -> u64
 }
 
 // Reads two bytes. Loads are joined by sums, two by two, so that eight of them compile to one.
-fn load_two(src: &[u8], at: usize) -> u64
+pub fn load_two(src: &[u8], at: usize) -> u64
     requires { ⌜ at + 2 ≤ length (now src) ⌝ }
     ensures { λ r. ⌜ (r ≡ field 2 at (now (src .entry))) × (r < 65536) ⌝ }
 {

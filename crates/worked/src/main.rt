@@ -50,8 +50,8 @@ fn check(block: &[u8]) {
     show_text(b"\n");
 }
 
-// The ten bytes of word 1 with the last byte 00, which no packer writes and which are accepted. Then a
-// block as it is, and with a byte added.
+// The ten bytes of word 1 with the last byte 00: a padded code, which no packer writes. Then a block as
+// it is, and with a byte added.
 fn checks() {
     check(b"\x01\x00\x00\x00\x0A\x00\x00\x00\x67\x00");
     check(b"\x03\x00\x00\x00\x0B\x00\x00\x00\x6F\xF7\x01");

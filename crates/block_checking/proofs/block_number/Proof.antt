@@ -2,7 +2,7 @@ use mathlib.Core.Path.{sym, _∙_}
 use native.Mathlib.Omega.{arith}
 use borrow.Author.Tests.{not-true, not-false}
 use borrow.Author.Needs.{needs}
-use Rattle.block_rules.proofs.Accept.{too-short, too-many, misstated, uneven, unfilled, fine}
+use Rattle.block_rules.proofs.Accept.{too-short, too-many, misstated, uneven, unfilled, has-padding, fine}
 use Rattle.block_rules.proofs.Get.{counted-cost}
 use Rattle.block_checking.proofs.block_number.Statement.{statement}
 use Rattle.block_checking.proofs.block_number.Tie as tie
@@ -94,9 +94,39 @@ returns-6 c =
     unfilled _ _ (at-if1 .if1 .left) (at-count .count .ensures) (at-if2 .if2 .left) _ (at-get-bytes .get-bytes .ensures) (at-if3 .if3 .left)
     (omega (arith, at-residual-length .residual-length .ensures, at-if5 .if5 .left)) (sym (at-filler-stands .filler-stands .ensures) ∙ not-true _ (c .if6 .taken))
 
+none-padded-requires : tie.Need-none-padded-requires
+none-padded-requires c κs =
+    let at-if5 = c .before .before in
+    let at-residual-length = at-if5 .before in
+    let at-if4 = at-residual-length .before in
+    let at-if2 = at-if4 .before .before .before in
+    let at-count = at-if2 .before in
+    record {
+      counted = record { count = at-count .count .ensures; few = at-if2 .if2 .left; codes = at-if4 .if4 .left };
+      adds = omega (arith, at-residual-length .residual-length .ensures, at-if5 .if5 .left);
+    }
+
 returns-7 : tie.Need-returns-7
 returns-7 c =
-    let at-filler-stands = c .before in
+    let at-none-padded = c .before in
+    let at-if6 = at-none-padded .before in
+    let at-filler-stands = at-if6 .before in
+    let at-if5 = at-filler-stands .before in
+    let at-residual-length = at-if5 .before in
+    let at-if3 = at-residual-length .before .before in
+    let at-get-bytes = at-if3 .before in
+    let at-if2 = at-get-bytes .before in
+    let at-count = at-if2 .before in
+    let at-if1 = at-count .before in
+    has-padding _ _ (at-if1 .if1 .left) (at-count .count .ensures) (at-if2 .if2 .left) _ (at-get-bytes .get-bytes .ensures) (at-if3 .if3 .left)
+    (omega (arith, at-residual-length .residual-length .ensures, at-if5 .if5 .left)) (sym (at-filler-stands .filler-stands .ensures) ∙ not-false _ (at-if6 .if6 .left))
+    (sym (at-none-padded .none-padded .ensures) ∙ not-true _ (c .if7 .taken))
+
+returns-8 : tie.Need-returns-8
+returns-8 c =
+    let at-none-padded = c .before in
+    let at-if6 = at-none-padded .before in
+    let at-filler-stands = at-if6 .before in
     let at-if5 = at-filler-stands .before in
     let at-residual-length = at-if5 .before in
     let at-if3 = at-residual-length .before .before in
@@ -105,7 +135,8 @@ returns-7 c =
     let at-count = at-if2 .before in
     let at-if1 = at-count .before in
     fine _ _ (at-if1 .if1 .left) (at-count .count .ensures) (at-if2 .if2 .left) _ (at-get-bytes .get-bytes .ensures) (at-if3 .if3 .left)
-    (omega (arith, at-residual-length .residual-length .ensures, at-if5 .if5 .left)) (sym (at-filler-stands .filler-stands .ensures) ∙ not-false _ (c .if6 .left))
+    (omega (arith, at-residual-length .residual-length .ensures, at-if5 .if5 .left)) (sym (at-filler-stands .filler-stands .ensures) ∙ not-false _ (at-if6 .if6 .left))
+    (sym (at-none-padded .none-padded .ensures) ∙ not-false _ (c .if7 .left))
 
 pub block-number-spec : {M : Type 1} → statement M
 block-number-spec =
@@ -124,4 +155,6 @@ block-number-spec =
     returns-5
     filler-stands-requires
     returns-6
-    returns-7)
+    none-padded-requires
+    returns-7
+    returns-8)
