@@ -167,8 +167,9 @@ extern "C" {
 #define COIL_SLOT_NOT_ABOVE 11u
 /* Append, and each record of coil_append_all: the file has 1,024 entries already. */
 #define COIL_FILE_FULL 12u
-/* The block has a residual with zero bytes on top that a smaller code would have left out. No packer writes that, nor
- * did one before request L2, so the block is damaged. (A library from before request L6 took such a block.) */
+/* A code of the block is padded: its residual has zero bytes on top that a code with fewer bytes would have left out. No
+ * packer writes that, nor did one before request L2, so the block is damaged. (A library from before request L6 took
+ * such a block.) */
 #define COIL_PADDED 13u
 /* A record of coil_append_all: its first word plus its count is above the length of the word buffer. (14 is not
  * used.) */
@@ -185,7 +186,7 @@ extern "C" {
  *
  * Checks in order: 1 tables; 2 more than 65,536 words; 3 out_len under COIL_WORST(words_len).
  * On success the first *length bytes of out are the block and the rest of out is as it was. No block is shorter: any
- * bytes that coil_unpack takes, with tables of the same size, and that give the same words, are at least as many. */
+ * bytes that are a block of the same words, with tables of the same size, are at least as many, padded or not. */
 uint32_t coil_pack(const uint64_t *words, size_t words_len,
                    uint64_t *fcm, size_t fcm_len, uint64_t *dfcm, size_t dfcm_len,
                    uint8_t *out, size_t out_len, size_t *length);
@@ -194,7 +195,7 @@ uint32_t coil_pack(const uint64_t *words, size_t words_len,
  *
  *   block, block_len   the bytes; read only
  *
- * Checks in order: 4 under 8 bytes; 2 declares more than 65,536 words; 5 length; 6 filler; 13 a padded residual.
+ * Checks in order: 4 under 8 bytes; 2 declares more than 65,536 words; 5 length; 6 filler; 13 a padded code.
  * A block that passes is not refused by coil_unpack, given two valid tables and the room. It need
  * not be a block that coil_pack would write: blocks packed before request L2 pass too. The number of words it
  * declares is its first 4 bytes, least significant byte first: so much room coil_unpack asks for. */

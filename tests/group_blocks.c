@@ -108,7 +108,7 @@ static void every_table_size(void)
     }
 }
 
-/* Well-formed blocks that the packer would not write: any code, any residual bytes. Padded ones are refused. */
+/* Blocks that can be read and that the packer would not write: any code, any residual bytes. Padded ones are refused. */
 static void is_read(size_t length, size_t count, uint32_t t)
 {
     must_answer(compare_check(block, length), 0);

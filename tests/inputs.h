@@ -32,11 +32,11 @@ extern const unsigned residual_width[8];
 /* The fewest bytes that any code writes for a residual. Each code is tried: nothing here counts zero bytes. */
 unsigned fewest_bytes(uint64_t residual);
 
-/* Of a block that is well formed: the code of a word, and where its residual starts. */
+/* Of a block that can be read (none of 4, 2, 5, 6 answers): the code of a word, and where its residual starts. */
 unsigned code_at(const uint8_t *block, size_t index);
 size_t residual_at(const uint8_t *block, size_t index);
 
-/* Whether some residual takes more bytes than another code would: what 13 refuses of a block that is well formed. */
+/* Whether some residual takes more bytes than another code would: what 13 refuses of a block that can be read. */
 bool has_padding(const uint8_t *block);
 
 /* Writes a block anew, each residual with as few bytes as any code does, by the predictor that was named. So it reads

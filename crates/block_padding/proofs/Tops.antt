@@ -1,29 +1,26 @@
 -- A padded code, by its two top residual bytes as one number; the walk over all codes.
 use mathlib.Core.Path.{_≡_, refl, sym, ap, _∙_}
-use mathlib.Core.Bool.{Bool, true, false, cond, not, _&&_}
+use mathlib.Core.Bool.{Bool, true, false, cond, _&&_}
 use mathlib.Core.List.{List, [], _∷_}
 use Prim.Native.Nat.{ℕ, zero, suc, _+_, _-_, _*_, _/_, _%_, _^_, _≤_, _<_}
 use native.Mathlib.Omega.{arith}
 use lib.Dec.{ltb, eqb}
 use lib.ListN.{length, getD, drop}
-use borrow.Author.Tests.{ltb-true, ltb-false, lt-ltb, le-ltb, eq-eqb, ne-eqb}
+use borrow.Author.Tests.{ltb-true, ltb-false, le-ltb, ne-eqb}
 use Rattle.words.specs.Bytes.{Bytes, field}
 use Rattle.words.proofs.Tests.{either, same-test}
 use Rattle.words.proofs.Bytes.{field-shifted, field-below}
 use Rattle.block_rules.specs.Codes.{written, padded}
 use Rattle.block_rules.specs.Block.{count, halves, countedCodes, residualLength, residualsAt, codedIn, nonePadded}
-use Rattle.block_rules.specs.Inside.{Counted, Spanned, codedAt}
+use Rattle.block_rules.specs.Inside.{Spanned, codedAt}
 use Rattle.block_rules.proofs.Codes.{written-small}
-use Rattle.block_rules.proofs.Padded.{padded-is}
+use Rattle.block_rules.proofs.Padded.{bytes, padded-is}
 use Rattle.block_rules.proofs.Get.{half-high, half-low, rest, rest-next, span-next, rest-none}
 use Rattle.block_padding.specs.Inside.{leastTop}
 
 -- ---- one code
 
--- the bytes that low bits write, and the least that the two top ones may make
-abbrev pub bytes : ℕ → ℕ
-bytes l = getD (8 ∷ 7 ∷ 6 ∷ 5 ∷ 3 ∷ 2 ∷ 1 ∷ 0 ∷ []) l 0
-
+-- the least that the two top bytes of low bits may make
 abbrev pub least : ℕ → ℕ
 least l = getD (256 ∷ 256 ∷ 256 ∷ 1 ∷ 256 ∷ 256 ∷ 256 ∷ 0 ∷ []) l 0
 
@@ -115,10 +112,10 @@ walking-starts b n at s e =
     record { upto = omega arith; small = omega arith; past = omega arith; bytes = rw e (sym (s .adds)); tells = rw (e, s .counted .count) }
 
 module _ (b : List ℕ) (n at faults i : ℕ) (s : Spanned b n) (w : Walking b n at faults i) (code : ℕ) (h : i < n) (e : code ≡ getD (halves (drop 8 b)) i 0) where
-  pub walking-within : at + written code ≤ length b
+  walking-within : at + written code ≤ length b
   walking-within = omega (arith, span-next b n i at code (s .counted) h e (w .bytes))
 
-  pub walking-on : (k : ℕ) → k ≡ cond (padded (codedAt b at code)) 1 0 → Walking b n (at + written code) (faults + k) (i + 1)
+  walking-on : (k : ℕ) → k ≡ cond (padded (codedAt b at code)) 1 0 → Walking b n (at + written code) (faults + k) (i + 1)
   walking-on k q =
       let next = rest-next b n i at code (s .counted) h e in
       let bytes' = span-next b n i at code (s .counted) h e (w .bytes) in

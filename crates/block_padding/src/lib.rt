@@ -52,7 +52,8 @@ fn padded(block: &[u8], tops: usize, code: u8) -> u64
 }
 
 // Whether none of a block's n codes is padded. Two codes a turn: a byte holds two. A turn waits for the
-// one before in its place alone; the faults are gathered in two sums, so that they wait less.
+// one before only in its place and in the faults so far. These are two sums, one for each code of a byte:
+// in one sum the two would wait for each other.
 pub fn none_padded(block: &[u8], n: usize) -> bool
     requires { ⌜ Spanned (now block) n ⌝ }
     ensures { λ r. ⌜ r ≡ nonePadded (codedIn (now (block .entry))) ⌝ }

@@ -129,7 +129,7 @@ padded-low-bits b h first c rest e =
 pub accepted-is-named : (t : ℕ) (b : List ℕ) → Bytes b → checked b .number ≡ 0 → b ≡ blockNaming (named b) t (wordsIn t b)
 accepted-is-named t b h e = sym (named-form t b h (sym (checks-number b) ∙ e))
 
--- And each such block is accepted: name a predictor for each of the words, and there is one block of bytes that names them and reads as the words.
+-- And each such block is accepted. Take at most 65,536 words, each below 2^64, and name a predictor for each: there is a block that names them and reads as the words.
 pub named-is-accepted : (ns : List Bool) (t : ℕ) (ws : List ℕ) → length ns ≡ length ws → length ws ≤ 65536 → Words ws
     → Bytes (blockNaming ns t ws) × (checked (blockNaming ns t ws) ≡ record { number = 0; count = length ws })
     × (named (blockNaming ns t ws) ≡ ns) × (wordsIn t (blockNaming ns t ws) ≡ ws)
@@ -169,13 +169,13 @@ words-counted t b e = reads-count t b e
 pub t-read-off : (t : ℕ) → t ≤ 16 → tOf (2 ^ t) ≡ t
 t-read-off t h = t-of-power t h
 
--- No proper first part of a block that can be read can be read. So none is accepted.
+-- Cut short, a block that can be read cannot be read any more. So no proper first part of an accepted block is accepted.
 pub no-first-part : (b : List ℕ) (k : ℕ) → formNumber b ≡ 0 → k < length b → formNumber (take k b) ≡ 0 → ⊥
 no-first-part b k e h f =
     let z = whole-alone (take k b) (drop k b) f (rw (take-append-drop k b) e) in
     omega (arith, length-drop k b)
 
--- No block that can be read can be read with bytes added. So it is not accepted.
+-- With bytes added, a block that can be read cannot be read any more. So nothing can be added to an accepted block.
 pub nothing-added : (b c : List ℕ) → formNumber b ≡ 0 → formNumber (b ++ c) ≡ 0 → 0 < length c → ⊥
 nothing-added b c e f h = omega (arith, whole-alone b c e f)
 

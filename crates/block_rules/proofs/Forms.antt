@@ -1,32 +1,30 @@
 -- The one form of a block: bytes that can be read are the arrangement of what they read as; without padded codes, that is the block of the words by the named predictors.
 use mathlib.Core.Path.{_≡_, refl, sym, ap, ap₂, _∙_}
-use mathlib.Core.Logic.{_↔_}
-use mathlib.Core.Bool.{Bool, true, false, not, _&&_, cond, false≢true, true≢false}
+use mathlib.Core.Bool.{true, false, true≢false}
 use mathlib.Core.List.{List, [], _∷_, _++_, map}
 use Prim.Native.Nat.{ℕ, zero, suc, _+_, _-_, _*_, _/_, _%_, _^_, _≤_, _<_}
 use native.Mathlib.Omega.{arith}
 use native.Mathlib.Nat.{lt-of-lt-of-le}
-use lib.Dec.{ltb, leb}
+use lib.Dec.{leb}
 use lib.ListN.{length, getD, take, drop, length-take, length-drop, take-append-drop}
 use lib.Seq.{take-add, take-all, drop-drop}
-use borrow.Author.Tests.{ltb-true, ltb-false, lt-ltb, le-ltb, leb-true, leb-false, le-leb, lt-leb}
-use Rattle.words.specs.Words.{xor, zeroBytes}
-use Rattle.words.specs.Bytes.{Bytes, lowBytes, number, field}
+use borrow.Author.Tests.{ltb-true, lt-ltb, le-ltb, leb-true, leb-false}
+use Rattle.words.specs.Words.{xor}
+use Rattle.words.specs.Bytes.{Bytes, lowBytes, number}
 use Rattle.words.proofs.Tests.{either}
-use Rattle.words.proofs.Each.{Each, none, more, each-at}
+use Rattle.words.proofs.Each.{none, more, each-at}
 use Rattle.words.proofs.Zeros.{pow-256-le}
 use Rattle.words.proofs.Bytes.{bytes-take, bytes-drop, bytes-low, number-low, number-below, low-number}
 use Rattle.words.proofs.Xor.{xor-back}
 use Rattle.answers.proofs.Checks.{both-hold}
 use Rattle.block_rules.specs.Predictors.{Memory, cleared, fcmPrediction, dfcmPrediction, learn}
-use Rattle.block_rules.specs.Codes.{fcmResidual, dfcmResidual, lowThree, written, codedBy, residualBytes, padded, namedPrediction, decodedWord, decodedWords}
+use Rattle.block_rules.specs.Codes.{fcmResidual, dfcmResidual, written, codedBy, residualBytes, padded, namedPrediction, decodedWord, decodedWords}
 use Rattle.block_rules.specs.Block.{codes, codeBytes, allResidualBytes, body, arranged, halves, count, statedLength, countedCodes, lastHalf, residualLength, residualsAt, withResiduals, codedIn, nonePadded, wordsIn}
 use Rattle.block_rules.specs.Numbers.{formNumber, blockNumber}
 use Rattle.block_rules.specs.Forms.{HasPadded, Smaller, namesDfcm, named, codedNaming, allNaming, blockNaming}
 use Rattle.block_rules.specs.declared.Coded.{Coded}
 use Rattle.block_rules.proofs.Codes.{written-is, fewer-written, low-bits-decide}
-use Rattle.block_rules.proofs.Padded.{Tight, padded-is, tight-low, low-tight, all-tight}
-use Rattle.block_rules.proofs.Lengths.{length-body}
+use Rattle.block_rules.proofs.Padded.{Tight, padded-is, tight-low, all-tight}
 use Rattle.block_rules.proofs.Accept.{Whole, form-tells, whole, whole-counted, takes-form, takes-tight, filler-needs}
 use Rattle.block_rules.proofs.Get.{length-in}
 use Rattle.block_rules.proofs.Round.{FourBits, Fit}
@@ -94,7 +92,7 @@ module _ (b : List ℕ) (bs : Bytes b) (formed : formNumber b ≡ 0) where
       let c : codeBytes (codes (codedIn b)) ≡ take k (drop 8 b) = rw codes-in code-bytes-in in
       ap₂ (λ (x y : List ℕ). x ++ y) c (residuals-in ∙ sym (drop-drop k 8 b)) ∙ take-append-drop k (drop 8 b)
 
-  pub arranged-forth : arranged (codedIn b) ≡ b
+  arranged-forth : arranged (codedIn b) ≡ b
   unfolding arranged
   arranged-forth =
       let four : 4 ≤ length b = omega (arith, told .long) in

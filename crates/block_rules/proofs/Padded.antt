@@ -1,5 +1,5 @@
 -- Padded codes: when a code is padded, that the code of a residual never is, and what a block without padded codes tells.
-use mathlib.Core.Path.{_≡_, refl, sym, ap, _∙_}
+use mathlib.Core.Path.{_≡_, refl, sym, _∙_}
 use mathlib.Core.Bool.{Bool, true, false, cond, _&&_, false≢true}
 use mathlib.Core.List.{List, [], _∷_}
 use Prim.Native.Nat.{ℕ, zero, suc, _+_, _-_, _*_, _/_, _%_, _^_, _≤_, _<_}
@@ -7,7 +7,7 @@ use native.Mathlib.Omega.{arith}
 use native.Mathlib.Nat.{pow-suc, div-lt-iff-lt-mul, lt-of-lt-of-le, lt-of-not-le, not-le-of-lt}
 use lib.Dec.{ltb, eqb}
 use lib.ListN.{getD}
-use borrow.Author.Tests.{ltb-true, ltb-false, lt-ltb, le-ltb, eqb-true, eqb-false, eq-eqb, ne-eqb}
+use borrow.Author.Tests.{ltb-true, ltb-false, le-ltb, eq-eqb, ne-eqb}
 use Rattle.words.specs.Words.{zeroBytes}
 use Rattle.words.specs.Bytes.{lowBytes}
 use Rattle.words.proofs.Each.{Each, none, more}
@@ -39,7 +39,7 @@ two-zero r h =
 -- ---- a code and its residual, which fits
 
 -- the bytes that low bits write
-abbrev bytes : ℕ → ℕ
+abbrev pub bytes : ℕ → ℕ
 bytes l = getD (8 ∷ 7 ∷ 6 ∷ 5 ∷ 3 ∷ 2 ∷ 1 ∷ 0 ∷ []) l 0
 
 module _ (c : Coded) (fits : c .residual < 256 ^ written (c .code)) where
@@ -61,7 +61,7 @@ module _ (c : Coded) (fits : c .residual < 256 ^ written (c .code)) where
       by-low-bits (suc (suc (suc (suc (suc (suc (suc zero))))))) r s h = refl
       by-low-bits (suc (suc (suc (suc (suc (suc (suc (suc l)))))))) r s h = absurd (omega arith)
 
-  -- so a padded code has low bits that are not its residual's own
+  -- a code that is not padded has the low bits of its residual's own zero bytes
   pub tight-low : padded c ≡ false → c .code % 8 ≡ lowThree (zeroBytes (c .residual))
   tight-low e =
       let r = c .residual in
@@ -83,6 +83,7 @@ module _ (c : Coded) (fits : c .residual < 256 ^ written (c .code)) where
       between : (l z k : ℕ) → l < 7 → l + l / 4 ≤ z → z ≤ l + (l + 1) / 4 → k + z / 4 ≡ z → l ≡ k
       between l z k few least most b = omega arith
 
+  -- and one that has them is not padded
   pub low-tight : c .code % 8 ≡ lowThree (zeroBytes (c .residual)) → padded c ≡ false
   low-tight e =
       let r = c .residual in

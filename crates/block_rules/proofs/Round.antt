@@ -100,7 +100,7 @@ module _ (cs : List Coded) (few : length cs ≤ 65536) (small : FourBits (codes 
   unfolding arranged body
   after-head = refl
 
-  pub arranged-count : count (arranged cs) ≡ length cs
+  arranged-count : count (arranged cs) ≡ length cs
   unfolding arranged
   arranged-count = number-low 4 (length cs) (omega arith)
 
@@ -126,7 +126,7 @@ module _ (cs : List Coded) (few : length cs ≤ 65536) (small : FourBits (codes 
       (either (eqb (length (codes cs) % 2) 1) (λ e. rw (e, filler-back (codes cs) (allResidualBytes cs) (eqb-true _ _ e))) (λ e. rw e))
 
   -- it can be read
-  pub arranged-forms : formNumber (arranged cs) ≡ 0
+  arranged-forms : formNumber (arranged cs) ≡ 0
   arranged-forms =
       whole-forms (arranged cs)
       (record {
@@ -138,12 +138,12 @@ module _ (cs : List Coded) (few : length cs ≤ 65536) (small : FourBits (codes 
       })
 
   -- and reads as it was
-  pub arranged-back : Fit cs → codedIn (arranged cs) ≡ cs
+  arranged-back : Fit cs → codedIn (arranged cs) ≡ cs
   unfolding codedIn
   arranged-back f = rw (arranged-count, arranged-codes, arranged-residuals) (residuals-back cs f)
 
   -- so where no code is padded, check takes it
-  pub arranged-whole : Fit cs → Tight cs → blockNumber (arranged cs) ≡ 0
+  arranged-whole : Fit cs → Tight cs → blockNumber (arranged cs) ≡ 0
   arranged-whole f t = tight-takes (arranged cs) arranged-forms (rw (arranged-back f) (none-padded t))
 
 -- ---- one word, by either predictor

@@ -71,7 +71,7 @@ residualBytes c = lowBytes (written (c .code)) (c .residual)
 unfoldable pub topByte : Coded → ℕ
 topByte c = getD (residualBytes c) (written (c .code) - 1) 0
 
--- the residual byte below the top one
+-- the residual byte below the top one, where two are written or more
 unfoldable pub secondByte : Coded → ℕ
 secondByte c = getD (residualBytes c) (written (c .code) - 2) 0
 

@@ -1,4 +1,4 @@
--- How far its words fix a block: codes that are padded, and the block of words by predictors that are named, one for each word.
+-- The one form of a block: codes that are padded, and the block of words by predictors that are named, one for each word.
 use mathlib.Core.Path.{_≡_}
 use Prim.Native.Nat.{ℕ, _/_, _<_}
 use mathlib.Core.List.{List, [], _∷_, _++_, map}
@@ -11,7 +11,7 @@ use Rattle.block_rules.specs.Codes.{Choice, fcmResidual, dfcmResidual, w
 use Rattle.block_rules.specs.Block.{arranged, countedCodes}
 use Rattle.block_rules.specs.declared.Coded.{Coded}
 
--- one of coded words is padded: those before it, itself, and those behind it
+-- a padded code among coded words, with those before it and those behind it
 pub record HasPadded (cs : List Coded) : Type 0 where
   pub first : List Coded
   pub code : Coded

@@ -12,7 +12,8 @@ use Rattle.answers.proofs.Checks.{afterwards-old}
 use Rattle.block_rules.specs.Predictors.{cleared, after}
 use Rattle.block_rules.specs.Codes.{Choice, dfcmChosen, dfcmChosenByBytes}
 use Rattle.block_rules.specs.Block.{blockBy, block, worst, count, statedLength, residualsAt, countedCodes, lastHalf, residualLength, codedIn, nonePadded}
-use Rattle.block_rules.specs.Room.{Cut, bound, closerBound}
+use Rattle.block_rules.specs.Forms.{named}
+use Rattle.block_rules.specs.Room.{Cut, bound, closerBound, BlockFor}
 use Rattle.block_rules.specs.Calls.{packed, packsNumber, Packs, checked, Unpacks}
 use Rattle.block_rules.specs.Numbers.{tOf, tablesNumber}
 use Rattle.block_rules.specs.Inside.{Sized, PacksAll, UnpacksAll}
@@ -23,7 +24,7 @@ use Rattle.block_rules.proofs.Tables.{t-of-power, sized-power, tables-sized, si
 use Rattle.block_rules.proofs.Accept.{packable, packable-packs, takes-form, takes-tight, tight-takes, whole, whole-forms, unpackable, unpackable-unpacks, packs-number, checks-number, packs-all-of, where-number, where-all, where-nothing, where-one-answer, where-forgets, unpacked-of, check-done, filler-needs, filler-has}
 use Rattle.block_rules.proofs.Answered.{pack-one-of, block-one-of, unpack-one-of}
 use Rattle.block_rules.proofs.Round.{chosen-count, chosen-whole, chosen-words, written-block, given-words}
-use Rattle.block_rules.proofs.Claims.{no-block-is-shorter, block-within-bound, block-within-worst, block-within-closer-bound}
+use Rattle.block_rules.proofs.Claims.{no-block-is-shorter, one-form, block-within-bound, block-within-worst, block-within-closer-bound}
 
 -- ---- no second answer
 
@@ -229,11 +230,16 @@ packed-before-unpacks words {fcm} {dfcm} k h few u l =
 
 -- ---- no block is shorter
 
+-- Of all blocks of the words, with tables of the size that pack had, whoever packed them and padded or not, none is shorter than an accepted pack answered.
+pub pack-is-shortest-of-all : {words fcm dfcm out f' d' out' b : List ℕ} {r : Packed} → Packs words fcm dfcm out r f' d' out' → r .number ≡ 0
+    → BlockFor (tOf (length fcm)) words b → r .length ≤ length b
+pack-is-shortest-of-all p e k = rw (packs-all-of p e .size) (no-block-is-shorter _ _ _ k)
+
 -- the words that an accepted unpack gave: the first of the words, as many as it answered
 abbrev pub givenWords : Unpacked → List ℕ → List ℕ
 givenWords s room' = take (s .count) room'
 
--- Whoever packed them: of all bytes for which unpack, with tables of the size that pack had, answers 0 and gives the words that were packed, none are fewer than the
+-- So of all bytes for which unpack, with tables of the size that pack had, answers 0 and gives the words that were packed, none are fewer than the
 -- length that an accepted pack answered. (That dfcm's table has the same size follows from the answer 0.)
 pub pack-is-shortest : {words fcm dfcm out f' d' out' b f₂ d₂ room f₂' d₂' room' : List ℕ} {r : Packed} {s : Unpacked}
     → Packs words fcm dfcm out r f' d' out' → r .number ≡ 0
@@ -242,7 +248,19 @@ pub pack-is-shortest : {words fcm dfcm out f' d' out' b f₂ d₂ room f₂' d�
 pack-is-shortest {b = b} p e h u same z gives =
     let taken = unpackable _ _ _ _ (sym (where-number u) ∙ z) .whole in
     let reads = sym (given-words taken (where-all u z)) ∙ gives in
-    rw (packs-all-of p e .size) (no-block-is-shorter _ _ _ (record { bytes = h; formed = takes-form b taken; reads = rw same at reads }))
+    pack-is-shortest-of-all p e (record { bytes = h; formed = takes-form b taken; reads = rw same at reads })
+
+-- ---- the one form of a block
+
+-- Two blocks of which unpack, with tables of one size, gives the same words, and which name the same predictor at each word, are the same bytes.
+pub unpacked-one-form : {b c fcm dfcm f₂ d₂ words words₂ f' d' w' f₂' d₂' w₂' : List ℕ} {r s : Unpacked} → Bytes b → Bytes c
+    → Unpacks b fcm dfcm words r f' d' w' → Unpacks c f₂ d₂ words₂ s f₂' d₂' w₂' → r .number ≡ 0 → s .number ≡ 0 → length fcm ≡ length f₂
+    → givenWords r w' ≡ givenWords s w₂' → named b ≡ named c → b ≡ c
+unpacked-one-form {b} {c} h k u v e f same ws ns =
+    let first = unpackable _ _ _ _ (sym (where-number u) ∙ e) .whole in
+    let second = unpackable _ _ _ _ (sym (where-number v) ∙ f) .whole in
+    let reads = sym (given-words first (where-all u e)) ∙ ws ∙ given-words second (where-all v f) in
+    one-form _ b c h k (checks-number b ∙ first) (checks-number c ∙ second) (rw (← same) at reads) ns
 
 -- ---- how much room a block needs
 

@@ -1,27 +1,29 @@
 -- What is promised of the calls from C, each promise with one line of plain words. They are the store's own promises, read through the lent numbers.
 use mathlib.Core.Path.{_≡_, refl, sym, ap, _∙_}
 use mathlib.Core.Bool.{false}
-use mathlib.Core.Logic.{_↔_, _⊎_}
+use mathlib.Core.Logic.{_↔_, _⊎_, ⊎-elim}
 use mathlib.Core.List.{List, [], _∷_, _++_, map, List·Mem, mem-cast}
 use Prim.Native.Nat.{ℕ, min, _+_, _-_, _*_, _/_, _^_, _≤_, _<_}
 use native.Mathlib.Omega.{arith}
 use lib.ListN.{length, getD, take, drop}
 use Rattle.words.specs.Words.{Words}
 use Rattle.words.specs.Bytes.{Bytes}
+use Rattle.words.proofs.Each.{Each, each-follows}
 use Rattle.answers.specs.Answers.{afterwards, over}
 use Rattle.answers.proofs.Checks.{afterwards-new}
 use Rattle.block_rules.specs.Codes.{dfcmChosenByBytes}
-use Rattle.block_rules.specs.Block.{blockBy, codedIn, wordsIn}
-use Rattle.block_rules.specs.Numbers.{formNumber, blockNumber}
+use Rattle.block_rules.specs.Block.{blockBy, statedLength, codedIn}
+use Rattle.block_rules.specs.Numbers.{tOf, formNumber, blockNumber}
 use Rattle.block_rules.specs.Forms.{HasPadded, named}
+use Rattle.block_rules.specs.Room.{BlockFor}
 use Rattle.block_rules.specs.declared.Packed.{Packed}
 use Rattle.block_rules.specs.declared.Checked.{Checked}
 use Rattle.block_rules.specs.declared.Unpacked.{Unpacked}
-use Rattle.block_rules.proofs.Accept.{takes-form, checks-number}
-use Rattle.block_rules.proofs.Claims.{packed-before-checks, padded-answers, one-form}
-use Rattle.blocks.proofs.Claims.{Tables, round-trip, packed-before-unpacks, pack-is-shortest, pack-numbers, check-numbers, unpack-numbers, pack-one-answer, unpack-one-answer, pack-forgets, unpack-forgets, refused-pack-changes-nothing, refused-unpack-changes-nothing}
+use Rattle.block_rules.proofs.Accept.{takes-form, thirteen-tells, checks-number}
+use Rattle.block_rules.proofs.Claims.{packed-before-checks, padded-answers}
+use Rattle.blocks.proofs.Claims.{Tables, round-trip, packed-before-unpacks, pack-is-shortest-of-all, pack-is-shortest, unpacked-one-form, pack-numbers, check-numbers, unpack-numbers, pack-one-answer, unpack-one-answer, pack-forgets, unpack-forgets, refused-pack-changes-nothing, refused-unpack-changes-nothing}
 use Rattle.exam_rules.specs.File.{Entry, fileLength, fileBytes, blockOf, empty}
-use Rattle.exam_rules.specs.Pieces.{fileOfPieces}
+use Rattle.exam_rules.specs.Pieces.{blocksOf, fileOfPieces}
 use Rattle.exam_rules.specs.Reading.{examIn, fileIn, entryOf}
 use Rattle.exam_rules.specs.Numbers.{openInNumber, findNumber, blockIn, nextSlot}
 use Rattle.exam_rules.specs.Calls.{opened, openedT, openedEntries, located, Lent, lent, wordsOf, filled}
@@ -36,7 +38,7 @@ use Rattle.exam_rules.proofs.Accept.{ReplaceTakes, AppendAllTakes, foretold, Sa
 use Rattle.exam_rules.proofs.Kept.{found-part}
 use Rattle.exam_rules.proofs.Exchanged.{found-old}
 use Rattle.exam_rules.proofs.Staying.{SlotsFit}
-use Rattle.exams.proofs.Claims.{MadeOf, created, grown, exchanged, made-opens, made-fetches, packed-before-fetches, MadeBefore, earlier-opens, earlier-fetches, earlier-cut-is-never-whole, append-fetches, replace-fetches, replace-is-its-parts, replace-is-afresh, cut-is-never-whole, create-numbers, open-numbers, locate-numbers, fetch-numbers, append-numbers, replace-numbers, create-one-answer, fetch-one-answer, append-one-answer, replace-one-answer, fetch-forgets, append-forgets, replace-forgets, refused-create-changes-nothing, refused-locate-tells-nothing, refused-fetch-changes-nothing, refused-append-changes-nothing, refused-replace-changes-nothing, replace-exchanges, replace-keeps-trailer, replace-length, replace-keeps-slots, replace-keeps-blocks, replace-moves-later, replace-puts-block, freed-bytes-are-zero, replace-leaves-the-rest, located-entry, own-exam, located-has, fetch-accepts, append-accepts, replace-accepts, append-all-one-answer, append-all-answers, append-all-accepts, append-all-numbers, append-all-own-exam, append-all-forgets, refused-append-all-changes-nothing, append-all-unopened, refused-record-changes-nothing, append-all-of-none, append-all-of-one, OneAfterAnother, append-all-is-appends, ItsAppends, append-all-has-its-appends, append-all-counts, append-all-opens, append-all-keeps-slots, mapOf, append-all-fetches, made-append-all, salvage-one-answer, salvage-accepts, salvage-numbers, refused-salvage-changes-nothing, salvage-opens, salvage-is-its-bytes, salvage-keeps-bytes, salvage-counts, salvage-stops, salvage-slots, salvage-finds, salvage-places, salvage-of-nothing, salvage-leaves-the-rest, salvage-room, salvage-of-intact, salvage-keeps-those-within, salvage-keeps-no-more, salvage-fetches, salvage-makes, salvage-fits, earlier-salvage-keeps, earlier-salvage-keeps-no-more, earlier-salvage-fits, earlier-salvage-fetches}
+use Rattle.exams.proofs.Claims.{MadeOf, created, grown, exchanged, made-opens, made-fetches, packed-before-fetches, MadeBefore, earlier-opens, earlier-fetches, earlier-cut-is-never-whole, append-fetches, replace-fetches, replace-is-its-parts, replace-is-afresh, cut-is-never-whole, create-numbers, open-numbers, locate-numbers, fetch-numbers, append-numbers, replace-numbers, create-one-answer, fetch-one-answer, append-one-answer, replace-one-answer, fetch-forgets, append-forgets, replace-forgets, refused-create-changes-nothing, refused-locate-tells-nothing, refused-fetch-changes-nothing, refused-append-changes-nothing, refused-replace-changes-nothing, replace-exchanges, replace-keeps-trailer, replace-length, replace-keeps-slots, replace-keeps-blocks, replace-moves-later, replace-puts-block, freed-bytes-are-zero, replace-leaves-the-rest, located-entry, own-exam, located-has, fetch-accepts, append-accepts, replace-accepts, append-all-one-answer, append-all-answers, append-all-accepts, append-all-numbers, append-all-own-exam, append-all-forgets, refused-append-all-changes-nothing, append-all-unopened, refused-record-changes-nothing, append-all-of-none, append-all-of-one, OneAfterAnother, append-all-is-appends, ItsAppends, append-all-has-its-appends, append-all-counts, append-all-opens, append-all-keeps-slots, mapOf, append-all-fetches, made-append-all, salvage-one-answer, salvage-accepts, salvage-numbers, refused-salvage-changes-nothing, salvage-opens, salvage-is-its-bytes, salvage-keeps-bytes, salvage-counts, salvage-stops, salvage-stops-at-refused, salvage-slots, salvage-finds, salvage-places, salvage-of-nothing, salvage-leaves-the-rest, salvage-room, salvage-of-intact, salvage-keeps-those-within, salvage-keeps-no-more, salvage-fetches, salvage-makes, salvage-fits, earlier-salvage-keeps, earlier-salvage-keeps-no-more, earlier-salvage-fits, earlier-salvage-fetches}
 use Rattle.coil.specs.Calls.{CoilOpens, CoilChecks, CoilPacks, CoilUnpacks, CoilCreates, CoilFinds, CoilFetches, CoilAppends, CoilAppendsAll, CoilReplaces, CoilSalvages}
 
 -- ---- there and back
@@ -135,15 +137,31 @@ all-whole c l asked w slot z =
     let found : CoilFinds c l asked slot 0 (x .offset) (x .size) = rw (afterwards-new _ (x .offset) 0 z, afterwards-new _ (x .size) 0 z, z) refl in
     rw (found-part c l asked slot z) (sym (checks-number _) ∙ sym (w slot (x .offset) (x .size) found))
 
+-- where of all blocks that coil_find finds coil_check answers 0 or 13, they can all be read
+all-read : (c : List ℕ) (l asked : ℕ) → ((slot offset size : ℕ) → CoilFinds c l asked slot 0 offset size → CoilChecks (take size (drop offset c)) 0 ⊎ CoilChecks (take size (drop offset c)) 13)
+    → (slot : ℕ) → findNumber c l asked slot ≡ 0 → formNumber (blockIn c l slot) ≡ 0
+unfolding located
+all-read c l asked w slot z =
+    let x = entryOf slot (fileIn (take l c)) in
+    let found : CoilFinds c l asked slot 0 (x .offset) (x .size) = rw (afterwards-new _ (x .offset) 0 z, afterwards-new _ (x .size) 0 z, z) refl in
+    rw (found-part c l asked slot z)
+    (⊎-elim (λ e. takes-form _ (sym (checks-number _) ∙ sym e)) (λ e. thirteen-tells _ (sym (checks-number _) ∙ sym e) .0) (w slot (x .offset) (x .size) found))
+
 -- Cut such a file anywhere, and let a buffer begin with what is left. coil_open may take it. But never do all blocks that coil_find then finds pass
--- coil_check, and coil_fetch unpacks none that does not pass.
+-- coil_check: one at least is refused, and not with 13. And coil_fetch unpacks none that does not pass.
 pub coil-cut-is-never-whole : {exam t : ℕ} {ms : List Map} {b : List ℕ} {l : ℕ} → MadeOf exam t ms b l → (k : ℕ) → k < l → (c : List ℕ) → take k c ≡ take k b
-    → (asked : ℕ) → CoilOpens c k asked 0 → ((slot offset size : ℕ) → CoilFinds c k asked slot 0 offset size → CoilChecks (take size (drop offset c)) 0) → ⊥
-coil-cut-is-never-whole m k short c same asked o w = cut-is-never-whole m k short c same asked (sym o) (λ slot z. takes-form _ (all-whole c k asked w slot z))
+    → (asked : ℕ) → CoilOpens c k asked 0
+    → ((slot offset size : ℕ) → CoilFinds c k asked slot 0 offset size → CoilChecks (take size (drop offset c)) 0 ⊎ CoilChecks (take size (drop offset c)) 13) → ⊥
+coil-cut-is-never-whole m k short c same asked o w = cut-is-never-whole m k short c same asked (sym o) (all-read c k asked w)
 
 -- ---- no block is shorter
 
--- Of all bytes for which coil_unpack, with tables of the size that coil_pack had, answers 0 and gives the words that were packed, none are fewer than those that
+-- Of all blocks of the words, with tables of the size that coil_pack had, whoever packed them and padded or not, none is shorter than the one that coil_pack wrote.
+pub coil-pack-is-shortest-of-all : {words fcm dfcm out f' d' out' b : List ℕ} {r l : ℕ} → CoilPacks words fcm dfcm out r f' d' out' l → r ≡ 0
+    → BlockFor (tOf (length fcm)) words b → l ≤ length b
+coil-pack-is-shortest-of-all p e k = pack-is-shortest-of-all p e k
+
+-- So of all bytes for which coil_unpack, with tables of the size that coil_pack had, answers 0 and gives the words that were packed, none are fewer than those that
 -- coil_pack wrote.
 pub coil-pack-is-shortest : {words fcm dfcm out f' d' out' b f₂ d₂ room f₂' d₂' room' : List ℕ} {r l s n : ℕ}
     → CoilPacks words fcm dfcm out r f' d' out' l → r ≡ 0
@@ -159,9 +177,11 @@ coil-padded-answers b c =
     let k = padded-answers b in
     ((λ e. k .0 (sym c ∙ e)), (λ h. c ∙ k .1 h))
 
--- Two blocks that coil_check takes, that read as the same words with tables of the same size and name the same predictor at each word, are the same bytes.
-pub coil-one-form : (t : ℕ) (b c : List ℕ) {r s : ℕ} → Bytes b → Bytes c → CoilChecks b r → CoilChecks c s → r ≡ 0 → s ≡ 0 → wordsIn t b ≡ wordsIn t c → named b ≡ named c → b ≡ c
-coil-one-form t b c h k p q e f ws ns = one-form t b c h k (sym p ∙ e) (sym q ∙ f) ws ns
+-- Two blocks of which coil_unpack, with tables of one size, gives the same words, and which name the same predictor at each word, are the same bytes.
+pub coil-one-form : {b c fcm dfcm f₂ d₂ words words₂ f' d' w' f₂' d₂' w₂' : List ℕ} {r m s n : ℕ} → Bytes b → Bytes c
+    → CoilUnpacks b fcm dfcm words r f' d' w' m → CoilUnpacks c f₂ d₂ words₂ s f₂' d₂' w₂' n → r ≡ 0 → s ≡ 0 → length fcm ≡ length f₂
+    → take m w' ≡ take n w₂' → named b ≡ named c → b ≡ c
+coil-one-form h k u v e f same ws ns = unpacked-one-form h k u v e f same ws ns
 
 -- ---- what was packed before request L2, when dfcm was chosen by leading zero bytes
 
@@ -201,10 +221,11 @@ pub coil-earlier-fetches : (first : List Map) (m : Map) (rest : List Map) {exam 
     → (r ≡ 0) × (n ≡ length (m .words)) × (room' ≡ over (m .words) room)
 coil-earlier-fetches first m rest k c lf ld enough = told (earlier-fetches first m rest k c lf ld enough)
 
--- Nor are all blocks whole where such a file was cut and opens.
+-- Nor can all blocks be read where such a file was cut and opens: one at least is refused, and not with 13.
 pub coil-earlier-cut-is-never-whole : {exam t : ℕ} {ms : List Map} {b : List ℕ} {l : ℕ} → MadeBefore exam t ms b l → (k : ℕ) → k < l → (c : List ℕ) → take k c ≡ take k b
-    → (asked : ℕ) → CoilOpens c k asked 0 → ((slot offset size : ℕ) → CoilFinds c k asked slot 0 offset size → CoilChecks (take size (drop offset c)) 0) → ⊥
-coil-earlier-cut-is-never-whole m k short c same asked o w = earlier-cut-is-never-whole m k short c same asked (sym o) (λ slot z. takes-form _ (all-whole c k asked w slot z))
+    → (asked : ℕ) → CoilOpens c k asked 0
+    → ((slot offset size : ℕ) → CoilFinds c k asked slot 0 offset size → CoilChecks (take size (drop offset c)) 0 ⊎ CoilChecks (take size (drop offset c)) 13) → ⊥
+coil-earlier-cut-is-never-whole m k short c same asked o w = earlier-cut-is-never-whole m k short c same asked (sym o) (all-read c k asked w)
 
 -- ---- every number is one of the call's list
 
@@ -572,6 +593,15 @@ coil-salvage-counts c e = salvage-counts c e
 pub coil-salvage-stops : {old b b' : List ℕ} {exam t r m kept left renumber : ℕ} → CoilSalvages old b exam t r b' m kept left renumber → r ≡ 0
     → (kept ≡ 1024) ⊎ (blockStands (drop (length old - left) old) ≡ false)
 coil-salvage-stops c e = salvage-stops c e
+
+-- Old bytes that are blocks which pass coil_check, at most 1,024, then one that it refuses, with 13 as with any other number, and then anything: coil_salvage stops
+-- there. It keeps just the blocks before it, and leaves over all else.
+pub coil-salvage-stops-at-refused : (bs : List (List ℕ)) (x : List ℕ) {refusal : ℕ} → Each (λ (b : List ℕ). CoilChecks b 0) bs → length bs ≤ 1024
+    → CoilChecks (take (statedLength x) x) refusal → (refusal ≡ 0 → ⊥)
+    → {exam t : ℕ} {b b' : List ℕ} {r m kept left renumber : ℕ} → CoilSalvages (blocksOf (numbered 0 bs) ++ x) b exam t r b' m kept left renumber → r ≡ 0
+    → (kept ≡ length bs) × (left ≡ length x)
+coil-salvage-stops-at-refused bs x ws few k h c e =
+    salvage-stops-at-refused bs x (each-follows (λ b z. sym (checks-number b) ∙ sym z) ws) few (λ z. h (k ∙ checks-number _ ∙ z)) c e
 
 -- coil_find finds the slots 0, 1, 2 and so on in it, as many as blocks were kept, and no other.
 pub coil-salvage-slots : {old b b' : List ℕ} {exam t r m kept left renumber : ℕ} → exam < 2 ^ 64 → CoilSalvages old b exam t r b' m kept left renumber → r ≡ 0

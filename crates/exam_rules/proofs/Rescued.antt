@@ -10,7 +10,7 @@ use lib.ListN.{length, getD, take, drop, length-append, length-take, length-map,
 use lib.Seq.{take-all, take-length, take-take, take-add, take-append-add, take-append-seam, drop-append-seam, drop-drop, getD-take, getD-at, length-take-le}
 use borrow.Author.Tests.{leb-true, leb-false, le-leb}
 use Rattle.words.specs.Bytes.{number}
-use Rattle.words.proofs.Each.{none, more}
+use Rattle.words.proofs.Each.{Each, none, more}
 use Rattle.words.proofs.Tests.{either}
 use Rattle.answers.proofs.Checks.{unless-holds, afterwards-new}
 use Rattle.block_rules.specs.Block.{block, count, statedLength}
@@ -30,7 +30,7 @@ use Rattle.exam_rules.proofs.Parts.{part-of-first}
 use Rattle.exam_rules.proofs.Pieces.{Wholes, length-pieces, HoldsPiece, piece-found, piece-entry}
 use Rattle.exam_rules.proofs.Holds.{Holds, holds-length}
 use Rattle.exam_rules.proofs.Cut.{block-states, entries-state, directory-states, directory-counts, each-found}
-use Rattle.exam_rules.proofs.Salvage.{StandsWhole, stands-whole, whole-stands, stands-long, length-numbered, salvage-kept, salvage-holds, salvage-piece}
+use Rattle.exam_rules.proofs.Salvage.{StandsWhole, stands-whole, whole-stands, stands-long, length-numbered, salvaged-ends, salvage-kept, salvage-left-over, salvage-holds, salvage-piece}
 
 -- ---- what stands at the start of a first part of bytes
 
@@ -78,6 +78,34 @@ module _ (p y : List ℕ) (w : blockNumber p ≡ 0) (k : ℕ) where
       let f = first-block h in
       whole-stands (take k (p ++ y))
       (record { within = omega (arith, f .0, length-take k (p ++ y), length-append p y); checks = rw (f .0, f .1) w })
+
+-- ---- the walk up to a block that is refused
+
+-- whole blocks, and then bytes at whose start no block stands: the blocks are found
+found-before : (slot : ℕ) (bs : List (List ℕ)) (x : List ℕ) → Each (λ (b : List ℕ). blockNumber b ≡ 0) bs → blockStands x ≡ false → (n : ℕ) → length bs ≤ n
+    → wholeBlocks n (blocksOf (numbered slot bs) ++ x) ≡ bs
+unfolding wholeBlocks
+found-before slot [] x ws falls zero h = refl
+found-before slot [] x ws falls (suc n) h = rw falls
+found-before slot (b ∷ bs) x ws falls zero h = absurd (omega arith)
+found-before slot (b ∷ bs) x (more w ws) falls (suc n) h =
+    let y = blocksOf (numbered (slot + 1) bs) ++ x in
+    let e : blocksOf (numbered slot (b ∷ bs)) ++ x ≡ b ++ y = append-assoc b (blocksOf (numbered (slot + 1) bs)) x in
+    let states = block-states b y w in
+    let stands = whole-stands (b ++ y) (record { within = omega (arith, states, length-append b y); checks = rw (states, take-append-seam b y) w }) in
+    rw (e, stands, states, take-append-seam b y, drop-append-seam b y) (ap (λ (l : List (List ℕ)). b ∷ l) (found-before (slot + 1) bs x ws falls n (omega arith)))
+
+-- so salvage keeps them, and leaves over what is behind them
+pub stops-at-refused : (bs : List (List ℕ)) (x : List ℕ) → Each (λ (b : List ℕ). blockNumber b ≡ 0) bs → length bs ≤ 1024 → (blockNumber (take (statedLength x) x) ≡ 0 → ⊥)
+    → {exam t : ℕ} {file file' : List ℕ} {r : Salvaged} → Salvages (blocksOf (numbered 0 bs) ++ x) file exam t r file' → r .number ≡ 0
+    → (r .kept ≡ length bs) × (r .«left_over» ≡ length x)
+stops-at-refused bs x ws few refused {exam} {t} c e =
+    let old = blocksOf (numbered 0 bs) ++ x in
+    let falls : blockStands x ≡ false = either (blockStands x) (λ q. absurd (refused (stands-whole x q .checks))) (λ q. q) in
+    let found = found-before 0 bs x ws falls 1024 few in
+    let body : length (salvagedFile old exam t .body) ≡ length (blocksOf (numbered 0 bs)) =
+    salvaged-ends old exam t ∙ ap (λ (l : List (List ℕ)). length (blocksOf (numbered 0 l))) found in
+    (salvage-kept c e ∙ ap length found, salvage-left-over c e ∙ omega (arith, body, length-append (blocksOf (numbered 0 bs)) x))
 
 -- ---- the walk over pieces that were cut
 

@@ -19,14 +19,13 @@ use Rattle.answers.specs.Answers.{afterwards, over}
 use Rattle.answers.proofs.Checks.{fails-here, afterwards-new, afterwards-old}
 use Rattle.block_rules.specs.Codes.{Choice, dfcmChosen, dfcmChosenByBytes, Thrifty}
 use Rattle.block_rules.specs.Block.{blockBy, block, count, statedLength}
-use Rattle.block_rules.specs.Calls.{checked}
 use Rattle.block_rules.specs.Numbers.{formNumber, blockNumber}
 use Rattle.block_rules.specs.declared.Unpacked.{Unpacked}
 use Rattle.exam_rules.specs.File.{entry, File, fileLength, fileBytes, blockOf, empty, appended, replaced}
 use Rattle.exam_rules.specs.Reading.{tIn, examIn, distanceIn, entriesIn, lengthIn, fileIn, entryOf}
 use Rattle.exam_rules.specs.Numbers.{openInNumber, findNumber, blockIn, nextSlot}
 use Rattle.exam_rules.specs.Calls.{opened, openedNumber, openedT, openedEntries, openedStart, Finds, located, Fetches, Creates, appendsNumber, Appends, replacesNumber, Replaces, Lent, lent, wordsOf, filled, AppendsAll, salvaged, salvagesNumber, Salvages}
-use Rattle.exam_rules.specs.Pieces.{fileOfPieces}
+use Rattle.exam_rules.specs.Pieces.{blocksOf, fileOfPieces}
 use Rattle.exam_rules.specs.Salvage.{blockStands, wholeBlocks, numbered, salvagedFile}
 use Rattle.exam_rules.specs.Maps.{Map, pieceOf, fileOf, pieceBy, fileBy, changed, renumberedFrom}
 use Rattle.exam_rules.specs.declared.Located.{Located}
@@ -36,7 +35,7 @@ use Rattle.exam_rules.specs.declared.Filled.{Filled}
 use Rattle.exam_rules.specs.declared.Salvaged.{Salvaged}
 use Rattle.exam_rules.specs.declared.Opened.{Opened}
 use Rattle.exam_rules.specs.declared.Opened.the-variants.{Done, Refused}
-use Rattle.block_rules.proofs.Accept.{checks-number, where-nothing, where-one-answer, where-forgets}
+use Rattle.block_rules.proofs.Accept.{where-nothing, where-one-answer, where-forgets}
 use Rattle.exam_rules.proofs.Opens.{opens-in, t-in, body-long, entries-many}
 use Rattle.exam_rules.proofs.Changes.{append-stopped, change-one-answer, changes-number, changes-none}
 use Rattle.exam_rules.proofs.Accept.{OpenTakes, open-takes, takes-open, FindTakes, find-takes, takes-find, FetchTakes, fetch-takes, takes-fetch, takes-create, AppendTakes, append-takes, takes-append, ReplaceTakes, replace-takes, takes-replace, opened-number, opened-done, fetches-number, CreateTakes, create-takes, AppendAllTakes, foretold, foretold-takes, takes-foretold, SalvageTakes, salvage-takes, takes-salvage}
@@ -45,8 +44,8 @@ use Rattle.exam_rules.proofs.Holds.{Holds, holds-length, holds-parts, holds-ope
 use Rattle.exam_rules.proofs.Pieces.{Wholes, created-pieces, appended-pieces, block-fetched, piece-found, piece-handed, piece-fetched, pieces-tell}
 use Rattle.exam_rules.proofs.Maps.{Fit, reads-by, map-reads, maps-whole, maps-piece, alike-holds, changed-at, changed-maps, changed-fit, renumbered-fit}
 use Rattle.exam_rules.proofs.Cut.{directory-states, directory-counts, never-all-whole}
-use Rattle.exam_rules.proofs.Salvage.{stands-whole, length-numbered, blocks-whole, salvaged-is, salvaged-many, salvaged-few, salvaged-within, salvaged-stop, salvaged-ends, salvaged-long, salvaged-most, salvage-number, salvage-kept, salvage-left-over, salvage-body, salvage-length, salvage-bytes, salvage-first, salvage-renumbers, salvage-beyond, salvage-holds, salvage-piece, salvage-slot, salvage-place, salvage-empty}
-use Rattle.exam_rules.proofs.Rescued.{directory-no-block, intact-blocks, intact-ends, cut-shorter, kept-most, cut-salvaged, those-within, those-kept}
+use Rattle.exam_rules.proofs.Salvage.{length-numbered, blocks-whole, salvaged-is, salvaged-many, salvaged-few, salvaged-within, salvaged-stop, salvaged-ends, salvaged-long, salvaged-most, salvage-number, salvage-kept, salvage-left-over, salvage-body, salvage-length, salvage-bytes, salvage-first, salvage-renumbers, salvage-beyond, salvage-holds, salvage-piece, salvage-slot, salvage-place, salvage-empty}
+use Rattle.exam_rules.proofs.Rescued.{stops-at-refused, directory-no-block, intact-blocks, intact-ends, cut-shorter, kept-most, cut-salvaged, those-within, those-kept}
 use Rattle.exam_rules.proofs.Kept.{found-long, found-size, found-within, found-part, more-holds, more-opens, slot-kept, slot-new}
 use Rattle.exam_rules.proofs.Filling.{words-of, record-numbered, record-refused, record-outside, append-to-record, record-to-append, each-none, each-one, all-opened}
 use Rattle.exam_rules.proofs.Forgets.{all-forgets}
@@ -877,10 +876,13 @@ pub salvage-stops : {old b b' : List ℕ} {exam t : ℕ} {r : Salvaged} → Salv
     → (r .kept ≡ 1024) ⊎ (blockStands (drop (length old - r .«left_over») old) ≡ false)
 salvage-stops {old} {exam = exam} {t = t} c e = rw (salvage-body c e, salvage-kept c e ∙ sym (salvaged-many old exam t)) (salvaged-stop old exam t)
 
--- A padded block stands nowhere, so salvage stops at it.
-pub padded-never-stands : (bs : List ℕ) → checked (take (statedLength bs) bs) .number ≡ 13 → blockStands bs ≡ false
-padded-never-stands bs e =
-    either (blockStands bs) (λ q. absurd (omega (arith, e, checks-number (take (statedLength bs) bs), stands-whole bs q .checks))) (λ q. q)
+-- Old bytes that are whole blocks, at most 1,024, then one that check refuses, with 13 as with any other number, and then anything: salvage stops there. It keeps
+-- just the blocks before it, and leaves over all else.
+pub salvage-stops-at-refused : (bs : List (List ℕ)) (x : List ℕ) → Each (λ (b : List ℕ). blockNumber b ≡ 0) bs → length bs ≤ 1024
+    → (blockNumber (take (statedLength x) x) ≡ 0 → ⊥)
+    → {exam t : ℕ} {b b' : List ℕ} {r : Salvaged} → Salvages (blocksOf (numbered 0 bs) ++ x) b exam t r b' → r .number ≡ 0
+    → (r .kept ≡ length bs) × (r .«left_over» ≡ length x)
+salvage-stops-at-refused bs x ws few h c e = stops-at-refused bs x ws few h c e
 
 -- Its slots are 0, 1, 2 and so on, as many as blocks were kept, and no other.
 pub salvage-slots : {old b b' : List ℕ} {exam t : ℕ} {r : Salvaged} → exam < 2 ^ 64 → Salvages old b exam t r b' → r .number ≡ 0

@@ -20,6 +20,10 @@ pub each-map : {A B : Type 0} {P : A → Type 0} {Q : B → Type 0} (f : A → B
 each-map f h none = none
 each-map f h (more p r) = more (h _ p) (each-map f h r)
 
+pub each-follows : {A : Type 0} {P Q : A → Type 0} {xs : List A} → ((x : A) → P x → Q x) → Each P xs → Each Q xs
+each-follows h none = none
+each-follows h (more p r) = more (h _ p) (each-follows h r)
+
 pub each-take : {A : Type 0} {P : A → Type 0} {xs : List A} (n : ℕ) → Each P xs → Each P (take n xs)
 each-take zero r = none
 each-take (suc n) none = none
