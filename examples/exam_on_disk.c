@@ -72,7 +72,7 @@ static const char *what_to_do(uint32_t number)
     case COIL_BAD_BLOCK_LENGTH:
     case COIL_BAD_FILLER:
     case COIL_PADDED:
-        return "the file is damaged: take the copy";
+        return "the block is damaged: take the copy, or see docs/CUT_FILES.md";
     case COIL_BAD_DIRECTORY:
         return "the file is damaged: take the copy, or see docs/CUT_FILES.md";
     case COIL_WRONG_EXAM:

@@ -70,7 +70,8 @@
  *   can be in the residual bytes, the codes or the word count of a block: then other words come out. It can
  *   be in the file's t: then coil_fetch refuses tables of the right size, and gives other words if you take t
  *   from the file. It can be in a slot number or in the exam number: then the words answer to another slot or
- *   exam. Where storage can damage bytes, keep a checksum of your own.
+ *   exam. 13 is none: it sees few changes of residual bytes. Where storage can damage bytes, keep a checksum of
+ *   your own.
  *
  *   A file that these calls made and that was cut short hardly ever opens, but it may: where what is left
  *   happens to end like a file. Then coil_fetch refuses at least one of its slots. Of a file that
@@ -168,8 +169,8 @@ extern "C" {
 /* Append, and each record of coil_append_all: the file has 1,024 entries already. */
 #define COIL_FILE_FULL 12u
 /* A code of the block is padded: its residual has zero bytes on top that a code with fewer bytes would have left out. No
- * packer writes that, nor did one before request L2, so the block is damaged. (A library from before request L6 took
- * such a block.) */
+ * block that coil_pack and its like wrote has one, now or before, so it was damaged, or another program wrote it. (A
+ * library from before request L6 took such a block, and gave wrong words.) docs/CUT_FILES.md says what to do. */
 #define COIL_PADDED 13u
 /* A record of coil_append_all: its first word plus its count is above the length of the word buffer. (14 is not
  * used.) */
@@ -408,7 +409,8 @@ uint32_t coil_replace(uint8_t *file, size_t file_len, size_t length, uint64_t ex
  * never passes 16,777,216. Where 3 comes for that, the bytes are not of one file: lend fewer.)
  * From the first byte on, a block is taken while one stands whole: the length that it states is within what is left,
  * and coil_check takes just those bytes (so fewer than 8 bytes are none). It ends at the first that does not stand, and
- * what is behind that one is left over, whole or not. It also ends after 1,024 blocks. Nothing kept is a success, and
+ * what is behind that one is left over, whole or not (docs/CUT_FILES.md says how to see why). It also ends after 1,024
+ * blocks. Nothing kept is a success, and
  * gives an empty file, as coil_create does.
  * On success the new file opens for exam, and has the old blocks, byte for byte, as they stood. The buffer beyond
  * *new_length is as it was. Of a file that these calls made, cut anywhere, it has just the maps whose blocks end at or
