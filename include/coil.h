@@ -170,7 +170,8 @@ extern "C" {
 #define COIL_FILE_FULL 12u
 /* A code of the block is padded: its residual has zero bytes on top that a code with fewer bytes would have left out. No
  * block that coil_pack and its like wrote has one, now or before, so it was damaged, or another program wrote it. (A
- * library from before request L6 took such a block, and gave wrong words.) docs/CUT_FILES.md says what to do. */
+ * library from before request L6 took such a block; where it was damaged, the words were wrong.) docs/CUT_FILES.md says
+ * what to do. */
 #define COIL_PADDED 13u
 /* A record of coil_append_all: its first word plus its count is above the length of the word buffer. (14 is not
  * used.) */
@@ -410,8 +411,7 @@ uint32_t coil_replace(uint8_t *file, size_t file_len, size_t length, uint64_t ex
  * From the first byte on, a block is taken while one stands whole: the length that it states is within what is left,
  * and coil_check takes just those bytes (so fewer than 8 bytes are none). It ends at the first that does not stand, and
  * what is behind that one is left over, whole or not (docs/CUT_FILES.md says how to see why). It also ends after 1,024
- * blocks. Nothing kept is a success, and
- * gives an empty file, as coil_create does.
+ * blocks. Nothing kept is a success, and gives an empty file, as coil_create does.
  * On success the new file opens for exam, and has the old blocks, byte for byte, as they stood. The buffer beyond
  * *new_length is as it was. Of a file that these calls made, cut anywhere, it has just the maps whose blocks end at or
  * before the cut, and coil_fetch gives back their words, with the t that the file was made with. Of a file that opens
