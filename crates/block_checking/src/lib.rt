@@ -1,4 +1,6 @@
 // Checking a block.
+#![tactic(auto)]
+
 ghost use Rattle.std.specs.Prelude.{◌≡◌, ◌+◌, ◌/◌, ◌%◌, ◌≤◌, ◌<◌, length, get_or, drop};
 ghost use Rattle.block_rules.specs.Codes.{written};
 ghost use Rattle.block_rules.specs.Block.{count, halves, counted_codes, residual_length};

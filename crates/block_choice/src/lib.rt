@@ -1,4 +1,6 @@
 // The choice between the two predictions, the code of the chosen one, and what the predictors learn.
+#![tactic(auto)]
+
 mod choice;
 mod predict;
 

@@ -1,4 +1,6 @@
 // Packing words that nothing refuses.
+#![tactic(auto)]
+
 ghost use Rattle.std.specs.Prelude.{◌≡◌, ◌+◌, ◌/◌, ◌≤◌, [], ◌++◌};
 ghost use lib.ListN.{length, take};
 ghost use Rattle.std.proofs.lemmas.List.Edits.{sets};
@@ -14,7 +16,7 @@ use block_staging::Pending;
 
 // What the whole pairs of words leave: what the predictors carry, where the next residual bytes go, and
 // how many are staged.
-#[derive(Drop)]
+#[derive(Clone, Copy)]
 pub struct Rest {
     pub carry: Carry,
     pub at: usize,

@@ -1,4 +1,6 @@
 // Whether a code of a block is padded.
+#![tactic(auto)]
+
 ghost use Rattle.std.specs.Prelude.{◌≡◌, cond, ◌+◌, ◌-◌, ◌≤◌, length};
 ghost use Rattle.block_rules.specs.Codes.{written, padded};
 ghost use Rattle.block_rules.specs.Block.{coded_in, none_padded};

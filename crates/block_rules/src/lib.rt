@@ -3,7 +3,7 @@
 
 // What the predictors carry from word to word beside their tables: the fcm hash, the dfcm hash and
 // the last word.
-#[derive(Drop)]
+#[derive(Clone, Copy)]
 pub struct Carry {
     pub fcm: usize,
     pub dfcm: usize,
@@ -11,28 +11,28 @@ pub struct Carry {
 }
 
 // A code and the residual that it stands for.
-#[derive(Drop)]
+#[derive(Clone, Copy)]
 pub struct Coded {
     pub code: u8,
     pub residual: u64,
 }
 
 // What pack answers: the number, and the block's length or 0.
-#[derive(Drop)]
+#[derive(Clone, Copy)]
 pub struct Packed {
     pub number: u32,
     pub length: usize,
 }
 
 // What check answers: the number, and the word count or 0.
-#[derive(Drop)]
+#[derive(Clone, Copy)]
 pub struct Checked {
     pub number: u32,
     pub count: usize,
 }
 
 // What unpack answers: the number, and the word count or 0.
-#[derive(Drop)]
+#[derive(Clone, Copy)]
 pub struct Unpacked {
     pub number: u32,
     pub count: usize,

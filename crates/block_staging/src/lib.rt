@@ -1,5 +1,7 @@
 // Staging: the residual bytes of one word or two go into a small buffer, by one store each, and from
 // there to the output.
+#![tactic(auto)]
+
 ghost use Rattle.std.specs.Prelude.{◌≡◌, ◌+◌, ◌≤◌, length, take, slice_index};
 ghost use Rattle.std.proofs.lemmas.List.Edits.{sets};
 ghost use Rattle.words.specs.Words.{xor};
@@ -12,14 +14,14 @@ ghost use Rattle.block_staging.specs.Inside.{StageRoom, StagesChosen, StagesWord
 use block_rules::Carry;
 
 // A word's code, and how many residual bytes are staged with its own.
-#[derive(Drop)]
+#[derive(Clone, Copy)]
 pub struct Staging {
     pub code: u8,
     pub staged: usize,
 }
 
 // What the predictors carry on after a word, the word's code, and how many residual bytes are staged.
-#[derive(Drop)]
+#[derive(Clone, Copy)]
 pub struct Step {
     pub carry: Carry,
     pub code: u8,
@@ -27,7 +29,7 @@ pub struct Step {
 }
 
 // The same after two words: both codes stand in one byte.
-#[derive(Drop)]
+#[derive(Clone, Copy)]
 pub struct Pair {
     pub carry: Carry,
     pub codes: u8,
@@ -35,7 +37,7 @@ pub struct Pair {
 }
 
 // Where the next residual bytes go in the output, and how many of them are staged.
-#[derive(Drop)]
+#[derive(Clone, Copy)]
 pub struct Pending {
     pub at: usize,
     pub staged: usize,

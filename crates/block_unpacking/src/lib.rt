@@ -1,4 +1,6 @@
 // Unpacking a block that nothing refuses.
+#![tactic(auto)]
+
 ghost use Rattle.std.specs.Prelude.{◌≡◌, ◌+◌, ◌<◌, ◌≤◌, length};
 ghost use Rattle.words.specs.Words.{xor};
 ghost use Rattle.words.specs.Bytes.{field};
@@ -10,7 +12,7 @@ ghost use Rattle.block_unpacking.specs.Inside.{Decodable, GetsWord, Getting, Get
 use block_rules::Carry;
 
 // Where a word is read: its residual bytes start there, and this is what the predictors carry.
-#[derive(Drop)]
+#[derive(Clone, Copy)]
 pub struct Place {
     pub at: usize,
     pub carry: Carry,

@@ -1,4 +1,6 @@
 // Packs 64-bit words into blocks, checks blocks and unpacks them.
+#![tactic(auto)]
+
 mod checking;
 mod numbers;
 mod packing;

@@ -62,7 +62,7 @@ fn index_of(file: &[u8], at: usize, n: usize, slot: u32) -> usize
 
 // Where the block of a slot stands in a file, and its entry among the entries; or 10, an empty part at the
 // file's start, and the number of entries.
-#[derive(Drop)]
+#[derive(Clone, Copy)]
 pub struct Part {
     pub number: u32,
     pub index: usize,

@@ -8,7 +8,7 @@ use exam_rules::{Made, Record};
 
 // Where append_all stands: the number that it answers so far, how many maps went in, the length that
 // it answers so far, and how many maps it goes on to, which a refusal sets to those that went in.
-#[derive(Drop)]
+#[derive(Clone, Copy)]
 pub struct Progress {
     pub number: u32,
     pub appended: usize,

@@ -3,7 +3,7 @@
 
 // What opening tells of a file: the edition, t, the number of entries, and where the directory
 // starts.
-#[derive(Drop)]
+#[derive(Clone, Copy)]
 pub struct Trailer {
     pub edition: usize,
     pub t: usize,
@@ -12,14 +12,14 @@ pub struct Trailer {
 }
 
 // What open answers.
-#[derive(Drop)]
+#[derive(Clone, Copy)]
 pub enum Opened {
     Done(Trailer),
     Refused(u32),
 }
 
 // What locate answers: the number, and where the block stands in the file and its size, or 0 and 0.
-#[derive(Drop)]
+#[derive(Clone, Copy)]
 pub struct Located {
     pub number: u32,
     pub offset: usize,
@@ -27,7 +27,7 @@ pub struct Located {
 }
 
 // What a call answers that makes or changes a file: the number, and the file's new length or 0.
-#[derive(Drop)]
+#[derive(Clone, Copy)]
 pub struct Made {
     pub number: u32,
     pub length: usize,
@@ -36,7 +36,7 @@ pub struct Made {
 // What append_all is told of a map: its slot, its first word and its word count in the one lent word
 // buffer. C lays it out so too.
 #[repr(C)]
-#[derive(Drop)]
+#[derive(Clone, Copy)]
 pub struct Record {
     pub slot: u32,
     pub first: usize,
@@ -44,7 +44,7 @@ pub struct Record {
 }
 
 // What append_all answers: the number, how many maps went in, and the file's length then, or 0.
-#[derive(Drop)]
+#[derive(Clone, Copy)]
 pub struct Filled {
     pub number: u32,
     pub appended: usize,
@@ -53,7 +53,7 @@ pub struct Filled {
 
 // What salvage answers: the number; the new file's length; how many blocks it kept and how many of the
 // old bytes it left over; and 1, since the slots are renumbered. All but the number are 0 at a refusal.
-#[derive(Drop)]
+#[derive(Clone, Copy)]
 pub struct Salvaged {
     pub number: u32,
     pub length: usize,

@@ -12,7 +12,7 @@ ghost use Rattle.exam_salvaging.specs.Inside.{standing_size, FoundIn, new_length
 use exam_rules::Salvaged;
 
 // The blocks that stand whole at the start of bytes: how many they are, and where the last one ends.
-#[derive(Drop)]
+#[derive(Clone, Copy)]
 pub struct Found {
     pub kept: usize,
     pub end: usize,

@@ -1,6 +1,8 @@
 // Bytes moved inside a buffer and bytes set to zero, for a file whose blocks change their place. (`words`
 // has `move_up`, which is all that a growing file needs.) A tool's `requires` is met by the crate that
 // calls it.
+#![tactic(auto)]
+
 ghost use Rattle.std.specs.Prelude.{◌≡◌, ◌+◌, ◌-◌, ◌≤◌, length, replicate, take, drop};
 ghost use Rattle.std.proofs.lemmas.List.Edits.{sets};
 

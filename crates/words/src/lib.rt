@@ -1,5 +1,7 @@
 // Tools on 64-bit words and on bytes, for the crates above. A tool's `requires` is met by the crate
 // that calls it; the calls of the store itself, in `blocks` and `exams`, have none.
+#![tactic(auto)]
+
 ghost use Rattle.std.specs.Prelude.{◌≡◌, ◌+◌, ◌<◌, ◌≤◌, length, take, drop, replicate};
 ghost use Rattle.std.proofs.lemmas.List.Edits.{sets};
 ghost use Rattle.words.specs.Words.{sub64, zero_bytes};
