@@ -113,6 +113,8 @@ class Function:
             p = self.place(at) if at else None
             if p and norm(p[2][0]) == norm(field):
                 parts[0] = p[2][1]
+                if len(parts) > 1 and parts[1] == "ensures" and re.match(r"wrapping_(add|sub)_u64", parts[0]) and len(parts) == 2:
+                    parts.append("value")
                 if field == "match" and len(parts) > 1 and re.match(r"keys\d+$|rest$", parts[1]):
                     parts[1] = "is" if parts[1] != "rest" else "in_default-own.rest"
             elif field not in ("args", "requires", "ranges", "auto", "type_inv", "well_formed"):
@@ -121,13 +123,29 @@ class Function:
                     parts[0] = hits.pop()
                 else:
                     self.say(f"step {field} at {at}")
+            self.numbered(parts)
             return "c." + ".".join(parts)
 
         names = "|".join(re.escape(a) for a in sorted(alias, key=len, reverse=True))
         paths = r"(?<![^\s(){};,@\"])(" + names + r")((?:\.[^\s(){}.;,@\"«»]+)+)"
         text = re.sub(paths, path, text)
         text = re.sub(r"\(c\.(shared_slice_known[\w-]*|slice_known[\w-]*)\.given ([^()]+)\)\.fits", self.fits, text)
-        return text
+        # a negated test says now what was found
+        return re.sub(r"not-(?:true|false) _ (c\.[^\s()]*-not-[^\s()]*\.(?:true|false))", r"\1", text)
+
+    def numbered(self, parts):
+        """What a call left in a parameter went by its number, and goes by its name."""
+        if len(parts) < 3 or parts[1] not in ("auto", "new") or parts[2] not in ("0", "1"):
+            return
+        callees = {q[3] for q in self.info["places"] if q[2][1] == parts[0] and q[3]}
+        params = self.info["params"].get(callees.pop(), []) if len(callees) == 1 else []
+        at = 0
+        while parts[2 + at : 3 + at] == ["1"]:
+            at += 1
+        if parts[2 + at : 3 + at] == ["0"] and at < len(params):
+            parts[2 : 3 + at] = [params[at]]
+        else:
+            self.say(".".join(parts))
 
     def fits(self, m):
         for p in self.info["places"]:

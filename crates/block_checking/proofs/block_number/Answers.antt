@@ -1,6 +1,5 @@
 use mathlib.Core.Path.{sym, ◌∙◌}
 use native.Mathlib.Omega.{arith}
-use borrow.Author.Tests.{not-true, not-false}
 use Rattle.block_rules.proofs.Accept.{too_short, too_many, misstated, uneven, unfilled, has_padding, fine}
 use Rattle.block_rules.proofs.Get.{counted_cost}
 use Rattle.block_checking.proofs.block_number.Goals as goal
@@ -39,7 +38,7 @@ filler_stands-requires c = record { count = c.count-n.ensures; few = c.if-n-gt65
 pub returns-then-not-filler_stands : goal.returns-then-not-filler_stands
 returns-then-not-filler_stands c =
     unfilled _ _ c.if-length-lt8.false c.count-n.ensures c.if-n-gt65536.false _ c.get_bytes.ensures c.if-get_bytes-length.false
-    (omega (arith, c.residual_length.ensures, c.if-length-start-2.false)) (sym c.filler_stands.ensures ∙ not-true _ c.if-not-filler_stands.true)
+    (omega (arith, c.residual_length.ensures, c.if-length-start-2.false)) (sym c.filler_stands.ensures ∙ c.if-not-filler_stands.true)
 
 pub none_padded-requires : goal.none_padded-requires
 none_padded-requires c =
@@ -51,11 +50,11 @@ none_padded-requires c =
 pub returns-then-not-none_padded : goal.returns-then-not-none_padded
 returns-then-not-none_padded c =
     has_padding _ _ c.if-length-lt8.false c.count-n.ensures c.if-n-gt65536.false _ c.get_bytes.ensures c.if-get_bytes-length.false
-    (omega (arith, c.residual_length.ensures, c.if-length-start-2.false)) (sym c.filler_stands.ensures ∙ not-false _ c.if-not-filler_stands.false)
-    (sym c.none_padded.ensures ∙ not-true _ c.if-not-none_padded.true)
+    (omega (arith, c.residual_length.ensures, c.if-length-start-2.false)) (sym c.filler_stands.ensures ∙ c.if-not-filler_stands.false)
+    (sym c.none_padded.ensures ∙ c.if-not-none_padded.true)
 
 pub returns : goal.returns
 returns c =
     fine _ _ c.if-length-lt8.false c.count-n.ensures c.if-n-gt65536.false _ c.get_bytes.ensures c.if-get_bytes-length.false
-    (omega (arith, c.residual_length.ensures, c.if-length-start-2.false)) (sym c.filler_stands.ensures ∙ not-false _ c.if-not-filler_stands.false)
-    (sym c.none_padded.ensures ∙ not-false _ c.if-not-none_padded.false)
+    (omega (arith, c.residual_length.ensures, c.if-length-start-2.false)) (sym c.filler_stands.ensures ∙ c.if-not-filler_stands.false)
+    (sym c.none_padded.ensures ∙ c.if-not-none_padded.false)

@@ -7,7 +7,7 @@ use Rattle.block_staging.proofs.stage_pair.Goals as goal
 pub stage_word-two-requires : goal.stage_word-two-requires
 stage_word-two-requires c =
     let w = c.stage_word-one.ensures in
-    let l = c.stage_word-one.auto.1.1.0 in
+    let l = c.stage_word-one.auto.stage in
     (record { room = omega (arith, c.requires.0.room, word_room w, l); small = omega (arith, c.requires.0.small, l) }, ready-learn _ _ _ _ _ _ _ c.requires.1 w.learnt)
 
 pub overflow_mul-result : goal.overflow_mul-result
@@ -19,4 +19,4 @@ overflow_add-result c = omega (arith, word-code c.stage_word-one.ensures, word-c
 pub returns : goal.returns
 returns c =
     let w = c.stage_word-one.ensures in
-    pair_staged _ _ _ _ _ _ _ _ _ _ _ _ _ _ w (rw (ap t_of c.stage_word-one.auto.0) at c.stage_word-two.ensures)
+    pair_staged _ _ _ _ _ _ _ _ _ _ _ _ _ _ w (rw (ap t_of c.stage_word-one.auto.fcm) at c.stage_word-two.ensures)

@@ -8,5 +8,5 @@ pub returns : goal.returns
 unfolding add64
 returns c =
     word-staged _ (memory c.args.fcm.now c.args.dfcm.now c.args.carry) _ _ _ _ _ _ _ _ _
-    (coded-word c.args.fcm.now c.args.dfcm.now c.args.carry _ _ _ refl c.wrapping_add_u64-dfcm_predicts.ensures)
+    (coded-word c.args.fcm.now c.args.dfcm.now c.args.carry _ _ _ refl c.wrapping_add_u64-dfcm_predicts.ensures.value)
     c.learn-next.ensures c.stage_chosen-done.ensures
