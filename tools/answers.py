@@ -99,7 +99,7 @@ class Function:
             if name not in alias:
                 return m[0]
             at = alias[name]
-            parts = rest.split(".")[1:]
+            parts = [x.strip("«»") for x in rest.split(".")[1:]]
             while parts and parts[0] == "before":
                 at = self.parent(at) if at else None
                 parts = parts[1:]
@@ -123,13 +123,17 @@ class Function:
                     parts[0] = hits.pop()
                 else:
                     self.say(f"step {field} at {at}")
+            if parts[1:3] == ["given", "1"]:
+                above = {self.places[q[1]][2][1] for q in self.info["places"] if q[2][1] == parts[0] and q[1] and self.places[q[1]][2][0] == "match"}
+                if len(above) == 1:
+                    parts[0:3] = [above.pop(), "is"]
             self.numbered(parts)
             return "c." + ".".join(parts)
 
         names = "|".join(re.escape(a) for a in sorted(alias, key=len, reverse=True))
-        paths = r"(?<![^\s(){};,@\"])(" + names + r")((?:\.[^\s(){}.;,@\"«»]+)+)"
+        paths = r"(?<![^\s(){};,@\"])(" + names + r")((?:\.[^\s(){}.;,@\"]+)+)"
         text = re.sub(paths, path, text)
-        text = re.sub(r"\(c\.(shared_slice_known[\w-]*|slice_known[\w-]*)\.given ([^()]+)\)\.fits", self.fits, text)
+        text = re.sub(r"\(c\.(shared_slice_known[\w-]*)\.given ([^()]+)\)\.fits", self.fits, text)
         # a negated test says now what was found
         return re.sub(r"not-(?:true|false) _ (c\.[^\s()]*-not-[^\s()]*\.(?:true|false))", r"\1", text)
 

@@ -1,4 +1,6 @@
 // Appending a slot.
+#![tactic(auto)]
+
 ghost use Rattle.std.specs.Prelude.{◌≡◌, ◌≤◌};
 ghost use Rattle.exam_rules.specs.Reading.{entries_at};
 ghost use Rattle.exam_rules.specs.Numbers.{next_slot, append_number};

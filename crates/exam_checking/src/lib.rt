@@ -1,4 +1,6 @@
 // The checks of a file: its trailer, its directory, its tables; and those of storing a block in it.
+#![tactic(auto)]
+
 ghost use Rattle.std.specs.Prelude.{◌≡◌, ◌+◌, ◌≤◌};
 ghost use Rattle.exam_rules.specs.Reading.{entries_at};
 ghost use Rattle.exam_rules.specs.Numbers.{most_bytes, edition_known, joins, entries_number, fields_number, trailer_number, open_number, open_in_number, file_tables_number, store_number};

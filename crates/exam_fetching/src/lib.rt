@@ -1,4 +1,6 @@
 // Fetching the words of a slot.
+#![tactic(auto)]
+
 ghost use Rattle.std.specs.Prelude.{◌≡◌, ◌≤◌};
 ghost use Rattle.exam_rules.specs.Numbers.{found_number};
 ghost use Rattle.exam_rules.specs.Calls.{Fetches};

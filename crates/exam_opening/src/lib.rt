@@ -1,4 +1,6 @@
 // Opening a file and finding a slot.
+#![tactic(auto)]
+
 ghost use Rattle.std.specs.Prelude.{◌≡◌};
 ghost use Rattle.exam_rules.specs.Reading.{entries_at, index_of, file_in};
 ghost use Rattle.exam_rules.specs.Numbers.{trailer_number};

@@ -1,4 +1,6 @@
 // One record of a list after the other: what append_all does before its first record, and with each.
+#![tactic(auto)]
+
 ghost use Rattle.std.specs.Prelude.{◌≡◌, ◌<◌};
 ghost use Rattle.exam_rules.specs.Numbers.{open_in_number};
 ghost use Rattle.exam_rules.specs.Calls.{lent, length_kept};

@@ -1,4 +1,6 @@
 // Replacing the words of a slot.
+#![tactic(auto)]
+
 ghost use Rattle.std.specs.Prelude.{◌≡◌, [], ◌∷◌};
 ghost use Rattle.answers.specs.Answers.{first_failure};
 ghost use Rattle.exam_rules.specs.Calls.{opened, Replaces};

@@ -1,4 +1,6 @@
 // Putting a block in the place of a slot's, in a file that is open.
+#![tactic(auto)]
+
 ghost use Rattle.std.specs.Prelude.{◌≡◌, ◌++◌, ◌+◌, ◌-◌, take, drop};
 ghost use Rattle.std.proofs.lemmas.List.Edits.{sets};
 ghost use Rattle.exam_rules.specs.Inside.{Entries};

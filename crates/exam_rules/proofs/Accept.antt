@@ -40,7 +40,7 @@ follows : (lowest from : ℕ) (es : List Entry) (to : ℕ) → entries_number jo
 follows lowest from [] to z = none (joins_equal from to (unless_holds _ _ z (omega arith)))
 follows lowest from (e ∷ es) to z =
     let h = heads joins lowest from e es to z in
-    more h.slot (joins_equal _ _ h.joined) h.size (follows _ _ es to h.rest)
+    more h.slot (joins_equal _ _ h.joined) h.size (follows (e.slot + 1) (e.offset + e.size) es to h.rest)
 
 keeps : {lowest from : ℕ} {es : List Entry} {to : ℕ} → Follows lowest from es to → entries_number joins lowest from es to ≡ 0
 keeps {lowest} {from} {to = to} (none e) = unless-passes _ _ (equal_joins from to e)
@@ -381,7 +381,7 @@ module _ (words : List ℕ) (t f d buffer bench : ℕ) where
         file_room = s.small;
         bench_room = s.packs.room;
       })
-      (foretold-takes h _ _ (k + 1) _ rs (sym (ap (λ (x : Filled). x.number) (afterwards-new n then (filled n k l) y)) ∙ z)))
+      (foretold-takes h (entries + 1) (r.slot + 1) (k + 1) (l + 12 + length (block t (words_of r words))) rs (sym (ap (λ (x : Filled). x.number) (afterwards-new n then (filled n k l) y)) ∙ z)))
       (λ q. absurd (eqb-false n 0 q (sym (ap (λ (x : Filled). x.number) (afterwards-old n then (filled n k l) (eqb-false n 0 q))) ∙ z)))
 
   pub takes-foretold : {entries next l : ℕ} {rs : List Record} (k : ℕ) → RecordsTake entries next l rs → (foretold entries next k l rs).number ≡ 0

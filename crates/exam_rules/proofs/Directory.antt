@@ -81,7 +81,7 @@ module _ (test : ℕ → ℕ → Bool) where
   each_keeps lowest from (e ∷ es) to zero d z h = let k = heads lowest from e es to z in (k.slot, k.size)
   each_keeps lowest from (e ∷ es) to (suc i) d z h =
       let k = heads lowest from e es to z in
-      let r = each_keeps _ _ es to i d k.rest (omega arith) in
+      let r = each_keeps (e.slot + 1) (e.offset + e.size) es to i d k.rest (omega arith) in
       (omega (arith, k.slot, r.0), r.1)
 
   index_is : (lowest from : ℕ) (es : List Entry) (to i : ℕ) (d : Entry) → entries_number test lowest from es to ≡ 0 → i < length es → index_of (get_or es i d).slot es ≡ i
@@ -90,7 +90,7 @@ module _ (test : ℕ → ℕ → Bool) where
   index_is lowest from (e ∷ es) to (suc i) d z h =
       let k = heads lowest from e es to z in
       let n : i < length es = omega arith in
-      rw (ne_eqb e.slot (get_or es i d).slot (λ q. omega (arith, (each_keeps _ _ es to i d k.rest n).0))) (ap suc (index_is _ _ es to i d k.rest n))
+      rw (ne_eqb e.slot (get_or es i d).slot (λ q. omega (arith, (each_keeps (e.slot + 1) (e.offset + e.size) es to i d k.rest n).0))) (ap suc (index_is (e.slot + 1) (e.offset + e.size) es to i d k.rest n))
 
 -- a test by which what comes next starts no earlier than what came before ends, and which says the same of both moved by one distance
 pub record Forward (test : ℕ → ℕ → Bool) : Type 0 where
@@ -102,12 +102,12 @@ module _ {test : ℕ → ℕ → Bool} (forward : Forward test) where
   ends-before lowest from [] to z = forward.up from to (unless_holds _ _ z (omega arith))
   ends-before lowest from (e ∷ es) to z =
       let h = heads test lowest from e es to z in
-      omega (arith, forward.up _ _ h.joined, ends-before _ _ es to h.rest)
+      omega (arith, forward.up _ _ h.joined, ends-before (e.slot + 1) (e.offset + e.size) es to h.rest)
 
   within : (lowest from : ℕ) (es : List Entry) (to i : ℕ) (d : Entry) → entries_number test lowest from es to ≡ 0 → i < length es → (get_or es i d).offset + (get_or es i d).size ≤ to
   within lowest from [] to i d z h = absurd (omega arith)
-  within lowest from (e ∷ es) to zero d z h = ends-before _ _ es to (heads test lowest from e es to z).rest
-  within lowest from (e ∷ es) to (suc i) d z h = within _ _ es to i d (heads test lowest from e es to z).rest (omega arith)
+  within lowest from (e ∷ es) to zero d z h = ends-before (e.slot + 1) (e.offset + e.size) es to (heads test lowest from e es to z).rest
+  within lowest from (e ∷ es) to (suc i) d z h = within (e.slot + 1) (e.offset + e.size) es to i d (heads test lowest from e es to z).rest (omega arith)
 
   -- entries start in order, each behind the end of those before
   starts-behind : (lowest from : ℕ) (es : List Entry) (to j : ℕ) (d : Entry) → entries_number test lowest from es to ≡ 0 → j < length es → from ≤ (get_or es j d).offset

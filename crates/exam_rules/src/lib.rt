@@ -3,6 +3,8 @@
 
 // What opening tells of a file: the edition, t, the number of entries, and where the directory
 // starts.
+#![tactic(auto)]
+
 #[derive(Clone, Copy)]
 pub struct Trailer {
     pub edition: usize,

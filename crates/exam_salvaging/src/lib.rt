@@ -1,5 +1,7 @@
 // Salvaging a file without its end: a new file of the blocks that stand whole at the start of the old
 // bytes.
+#![tactic(auto)]
+
 ghost use Rattle.std.specs.Prelude.{◌≡◌, ◌≤◌, length, drop};
 ghost use Rattle.std.proofs.lemmas.List.Edits.{sets};
 ghost use Rattle.exam_rules.specs.File.{directory_bytes};
