@@ -33,7 +33,7 @@ rule-blocks : {test : ℕ → ℕ → Bool} → Forward test → (lowest from : 
 rule-blocks p lowest from [] to z = none
 rule-blocks {test} p lowest from (e ∷ es) to z =
     let h = heads test lowest from e es to z in
-    more h.size (ends-before p _ _ es to h.rest) (rule-blocks p _ _ es to h.rest)
+    more h.size (ends-before p (e.slot + 1) (e.offset + e.size) es to h.rest) (rule-blocks p (e.slot + 1) (e.offset + e.size) es to h.rest)
 
 pub directory-blocks : (f : List ℕ) → directory_number (file_in f) ≡ 0 → Blocks (directory_at f) (entries_at f (directory_at f) (entries_in f))
 directory-blocks f z = rule-blocks joins_forward 0 0 _ _ (sym (directory-is f) ∙ z)
