@@ -1,4 +1,1 @@
 pub mod Progress
-pub mod Operands
-pub mod Lending
-pub mod Calls

@@ -12,12 +12,12 @@ use borrow.Author.Tests.{lt-ltb, le-ltb, ltb-false, eqb-true, eqb-false}
 use Rattle.words.proofs.Tests.{either}
 use Rattle.answers.proofs.Checks.{afterwards-new, afterwards-old}
 use Rattle.exam_rules.specs.Numbers.{open_in_number}
-use Rattle.exam_rules.specs.Calls.{Lent, record_appended, length_kept, filled, each_appended, all_appended}
+use Rattle.exam_rules.specs.Calls.{Lent, lent, record_appended, length_kept, filled, each_appended, all_appended}
 use Rattle.exam_rules.specs.declared.Made.{Made}
 use Rattle.exam_rules.specs.declared.Record.{Record}
 use Rattle.exam_rules.specs.declared.Filled.{Filled}
 use Rattle.exam_rules.proofs.Filling.{each_goes_on, each_stops, each_none, all-opened, all-refused}
-use Rattle.exam_records.specs.Inside.{refused, begun, gone, stepped}
+use Rattle.exam_records.specs.Inside.{refused, begun, gone, stepped, Steps}
 use Rattle.exam_records.specs.declared.Progress.{Progress}
 
 -- no record
@@ -115,3 +115,33 @@ module _ (words : List ℕ) (rs : List Record) where
     started =
         either (eqb number 0) (λ t. let z = eqb-true number 0 t in rw (begun-going z) (λ _. (refl, z)))
         (λ t. rw (begun-refused (eqb-false number 0 t)) (λ less. absurd (omega (arith, less))))
+
+-- ---- the loop
+
+-- finishing from here gives the whole outcome; and where there is something to do, it is all the records, and the file going
+pub record Going (words : List ℕ) (rs : List Record) (l exam : ℕ) (s₀ : Lent) (p : Progress) (s : Lent) : Type 0 where
+  pub full : p.appended < p.stop → p.stop ≡ length rs
+  pub opens : p.appended < p.stop → open_in_number s.file p.length exam ≡ 0
+  pub left : finish words rs p s ≡ all_appended l exam rs words s₀
+
+module _ (words : List ℕ) (rs : List Record) (l exam : ℕ) where
+  pub going_starts : (f fcm dfcm bench f' : List ℕ) (p : Progress) → p ≡ begun (length rs) l (open_in_number f l exam) → f' ≡ f
+      → Going words rs l exam (lent f fcm dfcm bench) p (lent f' fcm dfcm bench)
+  going_starts f fcm dfcm bench f' p e h =
+      rw (e, h)
+      (record {
+        full = λ k. (started words rs l exam (lent f fcm dfcm bench) k).0;
+        opens = λ k. (started words rs l exam (lent f fcm dfcm bench) k).1;
+        left = begins words rs l exam (lent f fcm dfcm bench);
+      })
+
+  module _ (s₀ : Lent) (p : Progress) (s : Lent) (less : p.appended < p.stop) (g : Going words rs l exam s₀ p s) (p' : Progress) (s' : Lent)
+      (step : Steps exam words (get_or rs p.appended blank_record) p s p' s') where
+    turn : Turned words rs p s (p', s')
+    turn = turned words rs p s less (g.full less) (p', s') step.outcome
+
+    pub going_on : Going words rs l exam s₀ p' s'
+    going_on = record { full = turn.full; opens = step.opens; left = turn.left ∙ g.left }
+
+    pub going_nearer : p'.stop - p'.appended < p.stop - p.appended
+    going_nearer = turn.nearer

@@ -1,4 +1,6 @@
 // Filling a file: the maps of a list of records, appended one after another.
+#![tactic(auto)]
+
 ghost use Rattle.exam_rules.specs.Calls.{AppendsAll};
 
 use exam_rules::{Filled, Record};
