@@ -723,13 +723,13 @@ append_all_fetches first r rest {b} {l} {exam} {words} {b' = b'} {room = room} {
     let x = block_fetched t (block t (words_of r words)) i.found i.is i.t-is reads q (lf ∙ sized.0) (ld ∙ sized.1) (omega (arith, i.long, enough)) in
     (x.0 ∙ ap (λ (n : ℕ). record { number = 0; count = n }) i.long, x.1)
 
-made_of_all : {exam t : ℕ} {ms : List Map} {words : List ℕ} {rs : List Record} {l n k l' : ℕ} {s s' : Lent} → MadeOf exam t ms s.file l → SlotsFit rs → Words words
+made_of_all : {exam t : ℕ} {words : List ℕ} {ms : List Map} {rs : List Record} {l n k l' : ℕ} {s s' : Lent} → MadeOf exam t ms s.file l → SlotsFit rs → Words words
     → OneAfterAnother exam words rs l s n k l' s' → MadeOf exam t (ms ++ map (map_of words) (take k rs)) s'.file l'
 made_of_all {ms = ms} m w v no_more = rw (append-nil ms) m
 made_of_all {ms = ms} m w v (beyond h) = rw (append-nil ms) m
 made_of_all {ms = ms} m w v (refused h c u) = rw (append-nil ms, (refused_append_changes_nothing c u).1) m
-made_of_all {exam} {t} {ms} {words} m (more w ws) v (went_in {r = r} {rs = rs} {k = k} h c z g) =
-    rw (add-one k, ← (append_assoc ms (map_of words r ∷ []) (map (map_of words) (take k rs)))) (made_of_all (grown m w (words_of_lem r words v) c z) ws v g)
+made_of_all {exam} {t} {words} {ms} m (more w ws) v (went_in {r = r} {rs = rs} {k = k} h c z g) =
+    rw (add-one k, ← (append_assoc ms (map_of words r ∷ []) (map (map_of words) (take k rs)))) (made_of_all {ms = ms ++ (map_of words r ∷ [])} (grown m w (words_of_lem r words v) c z) ws v g)
 
 -- A file that these calls made, where append_all answers 0 or a map went in, is made of its maps and then one for each record that went in. So
 -- `made_fetches` speaks of each of them.

@@ -2,6 +2,8 @@
 // slot's words, appends a slot, or many, replaces a slot's words, salvages a file without its end. This
 // crate has no function: the calls are those of the crates below, named together, and what is promised
 // of them is in proofs/.
+#![tactic(auto)]
+
 pub use exam_appending::append;
 pub use exam_fetching::fetch;
 pub use exam_filling::append_all;
