@@ -1,5 +1,7 @@
 // The calls of the store for C: each is the store's own call, with its number as the answer and what
 // else it tells put into lent numbers. include/coil.h declares them.
+#![tactic(auto)]
+
 ghost use Rattle.coil.specs.Calls.{CoilOpens, CoilChecks, CoilPacks, CoilUnpacks, CoilCreates, CoilFinds, CoilFetches, CoilAppends, CoilAppendsAll, CoilReplaces, CoilSalvages};
 
 use exams::Record;

@@ -1,0 +1,4 @@
+use Rattle.coil.proofs.coil_unpack.Goals as goal
+
+pub returns : goal.returns
+returns c = c.unpack-answer.ensures
