@@ -1,20 +1,17 @@
 -- A padded code, by its two top residual bytes as one number; the walk over all codes.
-use mathlib.Core.Path.{◌≡◌, refl, sym, ap, ◌∙◌}
+use mathlib.Core.Path.{◌≡◌, refl, sym, ◌∙◌}
 use mathlib.Core.Bool.{Bool, true, false, cond, ◌&&◌}
 use mathlib.Core.List.{List, [], ◌∷◌}
 use Prim.Native.Nat.{ℕ, zero, suc, ◌+◌, ◌-◌, ◌*◌, ◌/◌, ◌%◌, ◌^◌, ◌≤◌, ◌<◌}
 use native.Mathlib.Omega.{arith}
 use lib.Dec.{ltb, eqb}
 use lib.ListN.{length, get_or, drop}
-use borrow.Author.Tests.{ltb-true, ltb-false, le-ltb, ne_eqb}
-use Rattle.words.specs.Bytes.{Bytes, field}
+use borrow.Author.Tests.{le-ltb, ne_eqb}
 use Rattle.words.proofs.Tests.{either, same_test}
-use Rattle.words.proofs.Bytes.{field_shifted, field_below}
 use Rattle.block_rules.specs.Codes.{written, padded}
-use Rattle.block_rules.specs.Block.{count, halves, counted_codes, residual_length, residuals_at, coded_in, none_padded}
+use Rattle.block_rules.specs.Block.{halves, counted_codes, residual_length, residuals_at, coded_in, none_padded}
 use Rattle.block_rules.specs.Inside.{Spanned, coded_at}
-use Rattle.block_rules.proofs.Codes.{written_small}
-use Rattle.block_rules.proofs.Padded.{bytes, padded-is}
+use Rattle.block_rules.proofs.Padded.{bytes}
 use Rattle.block_rules.proofs.Get.{half_high, half_low, rest, rest-next, span_next, rest-none}
 use Rattle.block_padding.specs.Inside.{least_top}
 
@@ -25,7 +22,7 @@ abbrev pub least : ℕ → ℕ
 least l = get_or (256 ∷ 256 ∷ 256 ∷ 1 ∷ 256 ∷ 256 ∷ 256 ∷ 0 ∷ []) l 0
 
 -- of the eight bytes x that end with a residual: the next low bits write enough just where the two top bytes make less
-by_tops : (l x : ℕ) → l ≤ 7 → (ltb l 7 && ltb (x / 2 ^ (8 * (8 - bytes l))) (256 ^ bytes ((l + 1) % 8))) ≡ ltb (x / 2 ^ 48) (least l)
+pub by_tops : (l x : ℕ) → l ≤ 7 → (ltb l 7 && ltb (x / 2 ^ (8 * (8 - bytes l))) (256 ^ bytes ((l + 1) % 8))) ≡ ltb (x / 2 ^ 48) (least l)
 by_tops zero x s = same_test (x / 2 ^ 0) (256 ^ 7) (x / 2 ^ 48) 256 (λ q. omega arith) (λ q. omega arith)
 by_tops (suc zero) x s = same_test (x / 2 ^ 8) (256 ^ 6) (x / 2 ^ 48) 256 (λ q. omega arith) (λ q. omega arith)
 by_tops (suc (suc zero)) x s = same_test (x / 2 ^ 16) (256 ^ 5) (x / 2 ^ 48) 256 (λ q. omega arith) (λ q. omega arith)
@@ -70,31 +67,6 @@ least-small code = small (code % 8) (omega arith)
     small (suc (suc (suc (suc (suc (suc zero)))))) s = omega arith
     small (suc (suc (suc (suc (suc (suc (suc zero))))))) s = omega arith
     small (suc (suc (suc (suc (suc (suc (suc (suc l)))))))) s = absurd (omega arith)
-
-module _ (b : List ℕ) (tops at code : ℕ) (bs : Bytes b) (past : 8 ≤ at) (ends : at + written code ≡ tops + 2) where
-  padded_by_tops : padded (coded_at b at code) ≡ ltb (field 2 tops b) (least_top code)
-  unfolding least_top written
-  padded_by_tops =
-      let x = field 8 (tops - 6) b in
-      let w = written_small code in
-      let from : tops - 6 ≡ at - (8 - written code) = omega arith in
-      let r = field_shifted (written code) at x b bs w (omega arith) (ap (λ (k : ℕ). field 8 k b) from) in
-      let v = field_shifted 2 tops x b bs (omega arith) (omega arith) refl in
-      padded-is (coded_at b at code) (field_below (written code) at b bs) ∙ rw (← r, ← v) (by_tops (code % 8) x (omega arith))
-
-  -- without a test
-  pub told-padded : (top k : ℕ) → top ≡ field 2 tops b → k ≡ least_top code → (65535 + k - top) / 65536 ≡ cond (padded (coded_at b at code)) 1 0
-  told-padded top k e q =
-      let most = rw (← e) at (field_below 2 tops b bs) in
-      let few = rw (← q) at (least-small code) in
-      rw (padded_by_tops, ← e, ← q)
-      (either (ltb top k) (λ p. rw p (below top k few (ltb-true top k p))) (λ p. rw p (above top k most (ltb-false top k p))))
-    where
-      below : (top k : ℕ) → k ≤ 256 → top < k → (65535 + k - top) / 65536 ≡ 1
-      below top k few h = omega arith
-
-      above : (top k : ℕ) → top < 65536 → k ≤ top → (65535 + k - top) / 65536 ≡ 0
-      above top k most h = omega arith
 
 -- ---- the walk over all codes
 

@@ -18,6 +18,7 @@ use Rattle.block_rules.specs.Inside.{Packable, PacksAll, Counted, Unpackable, Un
 use Rattle.block_rules.specs.declared.Packed.{Packed}
 use Rattle.block_rules.specs.declared.Unpacked.{Unpacked}
 use Rattle.block_rules.proofs.Tables.{tables-sized, sized-tables}
+use Rattle.block_rules.proofs.Order.{takes_form, tight-takes, form_first, padded_thirteen}
 
 -- ---- pack
 
@@ -93,25 +94,6 @@ whole_forms b w =
     (fails_later _ _ _ (unless-passes _ _ (eq-eqb _ _ (w.stated ∙ w.adds)))
     (fails_later _ _ _ (unless-passes _ _ w.filler) all_pass)))))
 
--- a block that check takes can be read
-pub takes_form : (b : List ℕ) → block_number b ≡ 0 → form_number b ≡ 0
-unfolding block_number
-takes_form b e = (none_fails _ _ e).0
-
--- and no code of it is padded
-pub takes-tight : (b : List ℕ) → block_number b ≡ 0 → none_padded (coded_in b) ≡ true
-unfolding block_number
-takes-tight b e = unless_holds _ _ (none_fails _ _ (none_fails _ _ e).1).0 (omega arith)
-
-pub tight-takes : (b : List ℕ) → form_number b ≡ 0 → none_padded (coded_in b) ≡ true → block_number b ≡ 0
-unfolding block_number
-tight-takes b f t = sym (fails_later _ _ _ f (fails_later _ _ _ (unless-passes _ _ t) all_pass))
-
--- the form's number answers where it is a refusal
-form_first : (b : List ℕ) (k : ℕ) → k ≡ form_number b → (k ≡ 0 → ⊥) → k ≡ block_number b
-unfolding block_number
-form_first b k e h = fails_here _ _ _ e h
-
 -- where 13 answers, the form is right, and a code is padded
 form_at_most : (b : List ℕ) → form_number b ≤ 6
 unfolding form_number
@@ -123,10 +105,6 @@ pub thirteen_tells : (b : List ℕ) → block_number b ≡ 13 → (form_number b
 thirteen_tells b e =
     let f : form_number b ≡ 0 = either (eqb (form_number b) 0) (λ q. eqb-true _ _ q) (λ q. absurd (omega (arith, form_first b (form_number b) refl (eqb-false _ _ q), form_at_most b))) in
     (f, either (none_padded (coded_in b)) (λ t. absurd (omega (arith, tight-takes b f t))) (λ t. t))
-
-pub padded_thirteen : (b : List ℕ) → form_number b ≡ 0 → none_padded (coded_in b) ≡ false → 13 ≡ block_number b
-unfolding block_number
-padded_thirteen b f h = fails_later _ _ _ f (fails_here _ _ _ (unless_fails _ _ h) (λ z. omega arith))
 
 pub whole : (b : List ℕ) → block_number b ≡ 0 → Whole b
 whole b e = form_tells b (takes_form b e)

@@ -24,13 +24,14 @@ use Rattle.block_rules.proofs.Tables.{t_of_power}
 use Rattle.block_rules.proofs.Codes.{rule-thrifty, bytes-thrifty}
 use Rattle.block_rules.proofs.Padded.{tight_low, low_tight}
 use Rattle.block_rules.proofs.Lengths.{block-at_most}
-use Rattle.block_rules.proofs.Accept.{takes_form, thirteen_tells, padded_thirteen, form_tells, checks-number, check_done, too_short_for_codes, whole_alone}
+use Rattle.block_rules.proofs.Accept.{thirteen_tells, form_tells, checks-number, check_done, too_short_for_codes, whole_alone}
+use Rattle.block_rules.proofs.Order.{takes_form, padded_thirteen}
 use Rattle.block_rules.proofs.Round.{naming_bytes, naming_count, naming_names, naming_whole, naming_words, chosen_naming, chosen-bytes, chosen-count, chosen-whole, chosen-words}
 use Rattle.block_rules.proofs.Cost.{costs_no_more, blocks_alike}
 use Rattle.block_rules.proofs.Shortest.{reads-count, reads-words, none_shorter}
 use Rattle.block_rules.proofs.Forms.{code_fits, padded_smaller, smaller_padded, has_padded, padded_has, named_form}
 use Rattle.block_rules.proofs.Settle.{update, settles}
-use Rattle.block_rules.proofs.Runs.{block-closer, closer-at_most}
+use Rattle.block_rules.proofs.Cuts.{block-closer, closer-at_most}
 
 -- ---- the blocks worked by hand
 

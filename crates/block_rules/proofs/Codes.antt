@@ -5,13 +5,13 @@ use mathlib.Core.List.{[], ◌∷◌}
 use Prim.Native.Nat.{ℕ, zero, suc, ◌+◌, ◌-◌, ◌/◌, ◌%◌, ◌^◌, ◌≤◌, ◌<◌}
 use native.Mathlib.Omega.{arith}
 use native.Mathlib.Nat.{lt_of_lt_of_le}
-use lib.Count.{count_leading_zeros, leading_of_zero, leading_le}
+use lib.Count.{count_leading_zeros}
 use lib.Dec.{ltb}
 use lib.ListN.{get_or}
-use borrow.Author.Tests.{ltb-true, ltb-false, lt-ltb, le-ltb}
+use borrow.Author.Tests.{ltb-true, ltb-false}
 use Rattle.words.specs.Words.{zero_bytes}
 use Rattle.words.proofs.Tests.{either}
-use Rattle.words.proofs.Zeros.{zeros-at_most, zeros_within, pow_256_le, bits_some, zeros_by_bits}
+use Rattle.words.proofs.Zeros.{zeros-at_most, zeros_within, pow_256_le, zeros_by_bits}
 use Rattle.block_rules.specs.Predictors.{Memory, dfcm_prediction, fcm_prediction}
 use Rattle.block_rules.specs.Codes.{Choice, dfcm_chosen, dfcm_chosen_by_bytes, Thrifty, low_three, written, coded_by, chosen, coded_word, fcm_residual, dfcm_residual, named_prediction}
 use Rattle.block_rules.specs.declared.Coded.{Coded}
@@ -121,23 +121,6 @@ bytes-thrifty =
       dfcm = λ f d e. omega (arith, ltb-true (zero_bytes f) (zero_bytes d) e);
       fcm = λ f d e. ltb-false (zero_bytes f) (zero_bytes d) e;
     }
-
-module _ (f d : ℕ) where
-  pub more_bits : count_leading_zeros 64 f < count_leading_zeros 64 d → dfcm_chosen f d ≡ true
-  unfolding dfcm_chosen
-  more_bits h = lt-ltb (count_leading_zeros 64 f) (count_leading_zeros 64 d) h
-
-  pub no_more_bits : count_leading_zeros 64 d ≤ count_leading_zeros 64 f → dfcm_chosen f d ≡ false
-  unfolding dfcm_chosen
-  no_more_bits h = le-ltb (count_leading_zeros 64 f) (count_leading_zeros 64 d) h
-
-  -- a residual of 0 by fcm is taken
-  pub zero_by_fcm : f ≡ 0 → dfcm_chosen f d ≡ false
-  zero_by_fcm e = no_more_bits (rw e (omega (arith, leading_of_zero 64, leading_le 64 d)))
-
-  -- and one by dfcm, where that by fcm is not 0
-  pub zero_by_dfcm : f < 2 ^ 64 → 0 < f → d ≡ 0 → dfcm_chosen f d ≡ true
-  zero_by_dfcm h p e = more_bits (rw e (omega (arith, leading_of_zero 64, bits_some f h p)))
 
 pub chosen-dfcm : (choice : Choice) (f d : ℕ) (r : Coded) → choice f d ≡ true → r ≡ coded_by true d → r ≡ chosen choice f d
 unfolding chosen

@@ -2,12 +2,11 @@
 use mathlib.Core.Path.{◌≡◌, refl, sym, ap, ◌∙◌, subst}
 use mathlib.Core.Bool.{true, false}
 use mathlib.Core.List.{List, [], ◌∷◌}
-use Prim.Native.Nat.{ℕ, ◌+◌, ◌-◌, ◌/◌, ◌%◌, max, ◌^◌, ◌≤◌, ◌<◌}
+use Prim.Native.Nat.{ℕ, ◌-◌, max, ◌^◌, ◌≤◌, ◌<◌}
 use native.Mathlib.Omega.{arith}
 use native.Mathlib.Nat.{one-le-pow}
 use lib.Dec.{ltb}
 use lib.ListN.{length}
-use borrow.Author.Tests.{ltb-true, ltb-false}
 use Rattle.words.specs.Words.{xor, zero_bytes}
 use Rattle.words.proofs.Tests.{either}
 use Rattle.words.proofs.Zeros.{zeros-at_most, zeros_of_fit}
@@ -16,25 +15,9 @@ use Rattle.block_rules.specs.Predictors.{Memory, cleared, fcm_prediction, dfcm_p
 use Rattle.block_rules.specs.Codes.{Choice, Thrifty, fcm_residual, dfcm_residual, low_three, written, chosen, coded_word, coded_words, named_prediction, decoded_word}
 use Rattle.block_rules.specs.Block.{all_residual_bytes, block_by}
 use Rattle.block_rules.specs.declared.Coded.{Coded}
-use Rattle.block_rules.proofs.Codes.{low_three_is, low_three_of_zero, written_is, fewer-written, fits_word, coded_cost}
+use Rattle.block_rules.proofs.Codes.{fits_word, coded_cost}
 use Rattle.block_rules.proofs.Lengths.{length_residuals, length-block_by}
-
--- of the codes that write enough for z zero bytes, the code made for z writes least
-least-enough : (z c : ℕ) → z ≤ 8 → 8 - z ≤ written c → written (low_three z) ≤ written c
-least-enough z c h l =
-    either (ltb z 8)
-    (λ e.
-    let some : z ≤ 7 = omega (arith, ltb-true z 8 e) in
-    let b = low_three_is z some in
-    let s : low_three z % 8 ≡ low_three z = whole _ z some b in
-    fewer-written c (low_three z) (rw s (no_higher (c % 8) (low_three z) z some b (omega (arith, written_is c)))))
-    (λ e. omega (arith, low_three_of_zero z (omega (arith, ltb-false z 8 e)), written_is (low_three z)))
-  where
-    whole : (k z : ℕ) → z ≤ 7 → k + z / 4 ≡ z → k % 8 ≡ k
-    whole k z h e = omega arith
-
-    no_higher : (l k z : ℕ) → z ≤ 7 → k + z / 4 ≡ z → l + l / 4 ≤ z → l ≤ k
-    no_higher l k z h e n = omega arith
+use Rattle.block_rules.proofs.Least.{least-enough}
 
 -- what fits the bytes that a code writes leaves the other bytes zero
 zeros_of_written : (r c : ℕ) → r < 256 ^ written c → 8 - zero_bytes r ≤ written c

@@ -2,7 +2,7 @@
 use mathlib.Core.Path.{◌≡◌, refl, sym, ap, ap₂, ◌∙◌}
 use mathlib.Core.Bool.{true, false, true≢false}
 use mathlib.Core.List.{List, [], ◌∷◌, ◌++◌, map}
-use Prim.Native.Nat.{ℕ, zero, suc, ◌+◌, ◌-◌, ◌*◌, ◌/◌, ◌%◌, ◌^◌, ◌≤◌, ◌<◌}
+use Prim.Native.Nat.{ℕ, zero, suc, ◌+◌, ◌*◌, ◌/◌, ◌%◌, ◌^◌, ◌≤◌, ◌<◌}
 use native.Mathlib.Omega.{arith}
 use native.Mathlib.Nat.{lt_of_lt_of_le}
 use lib.Dec.{leb}
@@ -25,7 +25,8 @@ use Rattle.block_rules.specs.Forms.{HasPadded, Smaller, names_dfcm, named, coded
 use Rattle.block_rules.specs.declared.Coded.{Coded}
 use Rattle.block_rules.proofs.Codes.{written_is, fewer-written, low_bits_decide}
 use Rattle.block_rules.proofs.Padded.{Tight, padded-is, tight_low, all-tight}
-use Rattle.block_rules.proofs.Accept.{Whole, form_tells, whole, whole-counted, takes_form, takes-tight, filler_needs}
+use Rattle.block_rules.proofs.Accept.{Whole, form_tells, whole-counted, filler_needs}
+use Rattle.block_rules.proofs.Order.{takes_form, takes-tight}
 use Rattle.block_rules.proofs.Get.{length_in_lem}
 use Rattle.block_rules.proofs.Round.{FourBits, Fit}
 use Rattle.block_rules.proofs.Shortest.{read_codes, fit_in}

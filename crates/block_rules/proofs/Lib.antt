@@ -1,9 +1,12 @@
 pub mod Tables
 pub mod Codes
+pub mod Choices
 pub mod Learn
 pub mod Lengths
+pub mod Least
 pub mod Cost
 pub mod Padded
+pub mod Order
 pub mod Accept
 pub mod Answered
 pub mod Get
@@ -12,4 +15,5 @@ pub mod Shortest
 pub mod Forms
 pub mod Settle
 pub mod Runs
+pub mod Cuts
 pub mod Claims

@@ -1,6 +1,6 @@
 -- Padded codes: when a code is padded, that the code of a residual never is, and what a block without padded codes tells.
 use mathlib.Core.Path.{◌≡◌, refl, sym, ◌∙◌}
-use mathlib.Core.Bool.{Bool, true, false, cond, ◌&&◌, false≢true}
+use mathlib.Core.Bool.{true, false, cond, ◌&&◌, false≢true}
 use mathlib.Core.List.{List, [], ◌∷◌}
 use Prim.Native.Nat.{ℕ, zero, suc, ◌+◌, ◌-◌, ◌*◌, ◌/◌, ◌%◌, ◌^◌, ◌≤◌, ◌<◌}
 use native.Mathlib.Omega.{arith}
@@ -13,10 +13,10 @@ use Rattle.words.specs.Bytes.{low_bytes}
 use Rattle.words.proofs.Each.{Each, none, more}
 use Rattle.words.proofs.Tests.{either, same_test}
 use Rattle.words.proofs.Zeros.{zeros-at_most, zeros_within, zeros_of_fit, pow_256_le}
-use Rattle.block_rules.specs.Codes.{low_three, written, coded_by, residual_bytes, top_byte, second_byte, padded}
+use Rattle.block_rules.specs.Codes.{low_three, written, residual_bytes, top_byte, second_byte, padded}
 use Rattle.block_rules.specs.Block.{none_padded}
 use Rattle.block_rules.specs.declared.Coded.{Coded}
-use Rattle.block_rules.proofs.Codes.{low_three_is, low_three_of_zero, low_three_small, written_is, fits_word, coded_by_fits}
+use Rattle.block_rules.proofs.Codes.{low_three_is, low_three_of_zero, written_is, fits_word}
 
 -- ---- the bytes on top
 
@@ -104,12 +104,6 @@ module _ (c : Coded) (fits : c.residual < 256 ^ written c.code) where
     where
       beyond : (l z x : ℕ) → l < 7 → z ≤ 7 → 8 - x ≤ z → x + (l + 1) + (l + 1) / 4 ≡ 8 → l + z / 4 ≡ z → ⊥
       beyond l z x few some least q b = omega arith
-
--- the code that is made for a residual is not padded
-pub coded-tight : (b : Bool) (r : ℕ) → r < 2 ^ 64 → padded (coded_by b r) ≡ false
-unfolding coded_by
-coded-tight true r h = low_tight (coded_by true r) (coded_by_fits true r h) (omega (arith, low_three_small (zero_bytes r) (zeros-at_most r)))
-coded-tight false r h = low_tight (coded_by false r) (coded_by_fits false r h) (omega (arith, low_three_small (zero_bytes r) (zeros-at_most r)))
 
 -- ---- many codes
 

@@ -23,10 +23,29 @@ use Rattle.block_rules.specs.Forms.{names_dfcm, named, coded_naming, all_naming,
 use Rattle.block_rules.specs.Inside.{PacksAll, UnpacksAll}
 use Rattle.block_rules.specs.declared.Coded.{Coded}
 use Rattle.block_rules.proofs.Codes.{low_three_small, code-small, names-dfcm, names-fcm, coded_residual, coded_by_fits}
-use Rattle.block_rules.proofs.Padded.{Tight, coded-tight, none-padded}
+use Rattle.block_rules.proofs.Padded.{low_tight, Tight, none-padded}
 use Rattle.block_rules.proofs.Lengths.{length_residual, length_residuals, length-codes, length-code_bytes, length-body, length-arranged, arranged-at_most}
-use Rattle.block_rules.proofs.Accept.{whole_forms, tight-takes, counted}
+use Rattle.block_rules.proofs.Accept.{whole_forms, counted}
+use Rattle.block_rules.proofs.Order.{tight-takes}
 use Rattle.block_rules.proofs.Get.{length-words}
+use mathlib.Core.Path.{◌≡◌, refl, sym, ◌∙◌}
+use mathlib.Core.Bool.{Bool, true, false, cond}
+use mathlib.Core.List.{List, [], ◌∷◌}
+use Prim.Native.Nat.{ℕ, zero, suc, ◌+◌, ◌*◌, ◌/◌, ◌%◌, ◌^◌, ◌≤◌, ◌<◌}
+use lib.Dec.{eqb}
+use lib.ListN.{get_or}
+use Rattle.words.specs.Words.{zero_bytes}
+use Rattle.words.specs.Bytes.{low_bytes}
+use Rattle.words.proofs.Tests.{either}
+use Rattle.words.proofs.Zeros.{zeros-at_most}
+use Rattle.block_rules.specs.Codes.{low_three, written, coded_by, residual_bytes, padded}
+use Rattle.block_rules.proofs.Codes.{low_three_small, coded_by_fits}
+
+-- the code that is made for a residual is not padded
+coded-tight : (b : Bool) (r : ℕ) → r < 2 ^ 64 → padded (coded_by b r) ≡ false
+unfolding coded_by
+coded-tight true r h = low_tight (coded_by true r) (coded_by_fits true r h) (omega (arith, low_three_small (zero_bytes r) (zeros-at_most r)))
+coded-tight false r h = low_tight (coded_by false r) (coded_by_fits false r h) (omega (arith, low_three_small (zero_bytes r) (zeros-at_most r)))
 
 -- ---- codes from their bytes
 

@@ -1,32 +1,28 @@
 -- What runs of words cost: a predictor closes in on a run, and from then on its words cost nothing.
-use mathlib.Core.Path.{◌≡◌, refl, sym, ◌∙◌, subst}
-use mathlib.Core.List.{List, [], ◌∷◌, ◌++◌}
-use mathlib.Core.Bool.{or-true}
+use mathlib.Core.Path.{◌≡◌, refl, sym, ◌∙◌}
+use mathlib.Core.List.{List, ◌∷◌, ◌++◌}
 use Prim.Native.Nat.{ℕ, zero, suc, ◌+◌, ◌*◌, ◌/◌, ◌%◌, ◌^◌, ◌≤◌, ◌<◌}
 use native.Mathlib.Omega.{arith}
-use lib.Dec.{eqb}
 use lib.ListN.{length, get_or}
-use lib.Seq.{get_or-set_same, get_or-append-add}
-use borrow.Author.Tests.{eqb-true, lt-leb}
-use Rattle.words.specs.Words.{Words, add64, sub64, shifted_right}
-use Rattle.words.proofs.Tests.{either}
-use Rattle.block_rules.specs.Predictors.{Memory, cleared, fcm_prediction, dfcm_prediction, difference, next_fcm_hash, next_dfcm_hash, learn, after}
-use Rattle.block_rules.specs.Codes.{Choice, dfcm_chosen, Thrifty, written, coded_word, coded_words}
-use Rattle.block_rules.specs.Block.{all_residual_bytes, block_by, block}
-use Rattle.block_rules.specs.Room.{Run, words_from, joined, Cut, of_equal_words, run_cost, added, bound, closer_cost, closer_bound, times}
-use Rattle.block_rules.proofs.Codes.{written_small, rule-thrifty}
-use Rattle.block_rules.proofs.Learn.{Held, held-cleared, held-learn, held_after}
-use Rattle.block_rules.proofs.Lengths.{length_residuals, length-block_by}
+use lib.Seq.{get_or-set_same}
+use Rattle.words.specs.Words.{add64, sub64, shifted_right}
+use Rattle.block_rules.specs.Predictors.{Memory, fcm_prediction, dfcm_prediction, difference, next_fcm_hash, next_dfcm_hash, learn, after}
+use Rattle.block_rules.specs.Codes.{Choice, Thrifty, written, coded_word, coded_words}
+use Rattle.block_rules.specs.Block.{all_residual_bytes}
+use Rattle.block_rules.specs.Room.{words_from, times}
+use Rattle.block_rules.proofs.Codes.{written_small}
+use Rattle.block_rules.proofs.Learn.{Held, held-learn}
+use Rattle.block_rules.proofs.Lengths.{length_residuals}
 use Rattle.block_rules.proofs.Cost.{fcm_free, dfcm_free}
 use Rattle.block_rules.proofs.Settle.{update, settles}
 
 -- by any choice that is thrifty
 module _ (choice : Choice) (thrifty : Thrifty choice) where
   -- how many residual bytes words have, from the memory m on
-  abbrev spent : ℕ → Memory → List ℕ → ℕ
+  abbrev pub spent : ℕ → Memory → List ℕ → ℕ
   spent t m ws = length (all_residual_bytes (coded_words choice t m ws))
 
-  spent-word : (t : ℕ) (m : Memory) (v : ℕ) (vs : List ℕ) → spent t m (v ∷ vs) ≡ written (coded_word choice m v).code + spent t (learn t m v) vs
+  pub spent-word : (t : ℕ) (m : Memory) (v : ℕ) (vs : List ℕ) → spent t m (v ∷ vs) ≡ written (coded_word choice m v).code + spent t (learn t m v) vs
   spent-word t m v vs = length_residuals (coded_word choice m v) (coded_words choice t (learn t m v) vs)
 
   -- ---- a predictor that closes in on a run
@@ -86,7 +82,7 @@ module _ (choice : Choice) (thrifty : Thrifty choice) where
     unfolding fcm_prediction
     equal_free m v o e = fcm_free choice thrifty (learn t m v) (add64 v d) (rw (e, equal_stored m v o) (sym (equal_goes_on m v o).word))
 
-    equal_run : (k : ℕ) (m : Memory) (ws : List ℕ) → Held t m
+    pub equal_run : (k : ℕ) (m : Memory) (ws : List ℕ) → Held t m
         → spent t m (words_from w d k ++ ws) ≤ 8 * ((t + 5) / 6 + 1) + spent t (after t m (words_from w d k)) ws
     equal_run k m ws h =
         closing t d (λ n. n.fcm_hash) (update 6 t (shifted_right 48 w)) OnEqual equal_goes_on equal_updated equal_free ((t + 5) / 6) k m w ws
@@ -136,7 +132,7 @@ module _ (choice : Choice) (thrifty : Thrifty choice) where
     steps_free m v o e = dfcm_free choice thrifty (learn t m v) (add64 v d) (rw (e, steps_stored m v o) (steps_sum v))
 
     -- the first word sets the last word, and may cost
-    steps_run : (k : ℕ) (m : Memory) (v : ℕ) (ws : List ℕ) → Held t m → v < 2 ^ 64
+    pub steps_run : (k : ℕ) (m : Memory) (v : ℕ) (ws : List ℕ) → Held t m → v < 2 ^ 64
         → spent t m (words_from v d k ++ ws) ≤ 8 * ((t + 1) / 2 + 2) + spent t (after t m (words_from v d k)) ws
     steps_run zero m v ws h l = omega arith
     steps_run (suc k) m v ws h l =
@@ -147,62 +143,3 @@ module _ (choice : Choice) (thrifty : Thrifty choice) where
           closing t d (λ n. n.dfcm_hash) (update 2 t (shifted_right 40 (d % 2 ^ 64))) OnSteps steps_goes_on steps_updated steps_free ((t + 1) / 2) k (learn t m v) (add64 v d) ws
               (steps_start m v h l) ((settles 2 t _ ((t + 1) / 2) (omega arith)).stays _ (held-learn t m v h).dfcm_hash),
         )
-
-  -- ---- any cut into runs
-
-  -- adding a difference that is 0 modulo 2^64 keeps a word
-  sum_none : (v d : ℕ) → v < 2 ^ 64 → d % 2 ^ 64 ≡ 0 → add64 v d ≡ v
-  unfolding add64
-  sum_none v d h e = omega arith
-
-  -- a word costs at most 8 bytes
-  eight_each : (t k v d : ℕ) (m : Memory) (ws : List ℕ) → spent t m (words_from v d k ++ ws) ≤ 8 * k + spent t (after t m (words_from v d k)) ws
-  eight_each t zero v d m ws = omega arith
-  eight_each t (suc k) v d m ws =
-      omega (arith, spent-word t m v (words_from (add64 v d) d k ++ ws), written_small (coded_word choice m v).code, eight_each t k (add64 v d) d (learn t m v) ws)
-
-  -- a run costs no more than it may
-  one_run_lem : (t k v d : ℕ) (m : Memory) (ws : List ℕ) → Held t m → Words (words_from v d k ++ ws)
-      → spent t m (words_from v d k ++ ws) ≤ run_cost t (record { first = v; difference = d; count = k }) + spent t (after t m (words_from v d k)) ws
-  unfolding run_cost of_equal_words
-  one_run_lem t zero v d m ws h l = omega arith
-  one_run_lem t (suc zero) v d m ws h l = rw or-true (omega (arith, eight_each t 1 v d m ws))
-  one_run_lem t (suc (suc k)) v d m ws h l =
-      either (eqb (d % 2 ^ 64) 0)
-      (λ e. rw e (equal_run t d v (sum_none v d (l 0) (eqb-true _ _ e)) (suc (suc k)) m ws h))
-      (λ e. rw (e, lt-leb (suc (suc k)) 1 (omega arith)) (steps_run t d (suc (suc k)) m v ws h (l 0)))
-
-  -- nor do runs, one after another; and a word costs at most 8 bytes
-  all_runs : (t : ℕ) (rs : List Run) (m : Memory) → Held t m → Words (joined rs) → spent t m (joined rs) ≤ added (closer_cost t) rs
-  unfolding closer_cost
-  all_runs t [] m h l = omega arith
-  all_runs t (r ∷ rs) m h l =
-      let ws = words_from r.first r.difference r.count in
-      omega (
-        arith,
-        eight_each t r.count r.first r.difference m (joined rs),
-        one_run_lem t r.count r.first r.difference m (joined rs) h l,
-        all_runs t rs (after t m ws) (held_after t ws m h) (λ i. subst (λ (x : ℕ). x < 2 ^ 64) (get_or-append-add ws (joined rs) i 0) (l (length ws + i))),
-      )
-
-  -- so the block of words costs no more than any cut into runs says
-  pub chosen-closer : (t : ℕ) (ws : List ℕ) (cut : Cut ws) → Words ws → length (block_by choice t ws) ≤ closer_bound t ws cut
-  chosen-closer t ws cut l =
-      let s : spent t (cleared t) (joined cut.runs) ≤ added (closer_cost t) cut.runs =
-      all_runs t cut.runs (cleared t) (held-cleared t) (rw cut.whole l) in
-      omega (arith, length-block_by choice t ws, rw cut.whole at s)
-
--- ---- the bounds
-
-closer : (t : ℕ) (rs : List Run) → added (closer_cost t) rs ≤ added (run_cost t) rs
-unfolding closer_cost
-closer t [] = omega arith
-closer t (r ∷ rs) = omega (arith, closer t rs)
-
-module _ (t : ℕ) (ws : List ℕ) (cut : Cut ws) where
-  pub closer-at_most : closer_bound t ws cut ≤ bound t ws cut
-  closer-at_most = omega (arith, closer t cut.runs)
-
-  pub block-closer : Words ws → length (block t ws) ≤ closer_bound t ws cut
-  unfolding block
-  block-closer l = chosen-closer dfcm_chosen rule-thrifty t ws cut l

@@ -1,5 +1,6 @@
 // The rules of a block. This crate has no function: its definitions are in specs/, their laws and what
 // is promised of them in proofs/. Here are the structs that both the rules and the code speak of.
+#![tactic(auto)]
 
 // What the predictors carry from word to word beside their tables: the fcm hash, the dfcm hash and
 // the last word.

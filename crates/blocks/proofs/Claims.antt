@@ -21,7 +21,8 @@ use Rattle.block_rules.specs.declared.Packed.{Packed}
 use Rattle.block_rules.specs.declared.Checked.{Checked}
 use Rattle.block_rules.specs.declared.Unpacked.{Unpacked}
 use Rattle.block_rules.proofs.Tables.{t_of_power, sized-power, tables-sized, sized-tables}
-use Rattle.block_rules.proofs.Accept.{packable, packable-packs, takes_form, takes-tight, tight-takes, whole, whole_forms, unpackable, unpackable-unpacks, packs-number, checks-number, packs_all_of, where_number, where_all, where_nothing, where_one_answer, where_forgets, unpacked_of, check_done, filler_needs, filler_has}
+use Rattle.block_rules.proofs.Accept.{packable, packable-packs, whole, whole_forms, unpackable, unpackable-unpacks, packs-number, checks-number, packs_all_of, where_number, where_all, where_nothing, where_one_answer, where_forgets, unpacked_of, check_done, filler_needs, filler_has}
+use Rattle.block_rules.proofs.Order.{takes_form, takes-tight, tight-takes}
 use Rattle.block_rules.proofs.Answered.{pack_one_of, block_one_of, unpack_one_of}
 use Rattle.block_rules.proofs.Round.{chosen-count, chosen-whole, chosen-words, written-block, given_words_lem}
 use Rattle.block_rules.proofs.Claims.{no_block_is_shorter, one_form, block_within_bound, block_within_worst, block_within_closer_bound}

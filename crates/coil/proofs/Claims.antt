@@ -19,7 +19,8 @@ use Rattle.block_rules.specs.Room.{BlockFor}
 use Rattle.block_rules.specs.declared.Packed.{Packed}
 use Rattle.block_rules.specs.declared.Checked.{Checked}
 use Rattle.block_rules.specs.declared.Unpacked.{Unpacked}
-use Rattle.block_rules.proofs.Accept.{takes_form, thirteen_tells, checks-number}
+use Rattle.block_rules.proofs.Accept.{thirteen_tells, checks-number}
+use Rattle.block_rules.proofs.Order.{takes_form}
 use Rattle.block_rules.proofs.Claims.{packed_before_checks, padded-answers}
 use Rattle.blocks.proofs.Claims.{Tables, round_trip, packed_before_unpacks, pack_is_shortest_of_all, pack_is_shortest, unpacked-one_form, pack_numbers, check_numbers, unpack_numbers, pack_one_answer, unpack_one_answer, pack_forgets, unpack_forgets, refused_pack_changes_nothing, refused_unpack_changes_nothing}
 use Rattle.exam_rules.specs.File.{Entry, file_length, file_bytes, block_of, empty}

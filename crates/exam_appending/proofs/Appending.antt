@@ -7,7 +7,6 @@ use lib.ListN.{length, take, drop, length-append}
 use Rattle.words.specs.Bytes.{Bytes, field}
 use Rattle.answers.specs.Answers.{over}
 use Rattle.answers.proofs.Checks.{fails_here, fails_later, last_decides, afterwards-new}
-use Rattle.block_rules.specs.Block.{block}
 use Rattle.block_rules.specs.Numbers.{t_of}
 use Rattle.block_rules.specs.Inside.{PacksAll}
 use Rattle.block_rules.proofs.Lengths.{block-at_most}

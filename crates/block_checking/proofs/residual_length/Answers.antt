@@ -1,5 +1,4 @@
 use mathlib.Core.Path.{refl}
-use Prim.Native.Nat.{◌-◌}
 use native.Mathlib.Omega.{arith}
 use Rattle.block_rules.proofs.Codes.{written_small}
 use Rattle.block_checking.proofs.Adding.{adding-starts, adding_pair, adding-last, adding-ends}

@@ -1,4 +1,3 @@
-use Prim.Native.Nat.{◌-◌}
 use native.Mathlib.Omega.{arith}
 use Rattle.block_packing.proofs.PutLoop.{going-starts, going-staged, going-room, going_on, going_rests, going-ends}
 use Rattle.block_packing.proofs.put_words.Goals as goal

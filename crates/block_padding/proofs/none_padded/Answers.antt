@@ -1,5 +1,4 @@
 use mathlib.Core.Path.{refl}
-use Prim.Native.Nat.{◌-◌}
 use native.Mathlib.Omega.{arith}
 use Rattle.block_padding.proofs.Tops.{walking_starts, pair_within, walking_pair, walking_ends, last_within, walking_last}
 use Rattle.block_padding.proofs.none_padded.Goals as goal

@@ -1,7 +1,8 @@
 use Prim.Native.Nat.{◌+◌, ◌-◌}
 use native.Mathlib.Omega.{arith}
 use Rattle.block_rules.specs.Codes.{written}
-use Rattle.block_padding.proofs.Tops.{least-small, told-padded}
+use Rattle.block_padding.proofs.Tops.{least-small}
+use Rattle.block_padding.proofs.Told.{told-padded}
 use Rattle.block_padding.proofs.padded.Goals as goal
 
 pub overflow_add-result : goal.overflow_add-result

@@ -1,8 +1,7 @@
 use mathlib.Core.Path.{sym, ◌∙◌}
-use Prim.Native.Nat.{◌+◌, ◌-◌}
+use Prim.Native.Nat.{◌+◌}
 use native.Mathlib.Omega.{arith}
 use Rattle.words.proofs.Bytes.{field_below}
-use Rattle.exam_rules.specs.Numbers.{joins}
 use Rattle.exam_checking.proofs.Walk.{walk-starts, slot_too_low, offset_apart, block-too_short, walk_on, walk-joins, walk_gap}
 use Rattle.exam_checking.proofs.entries_number.Goals as goal
 

@@ -1,4 +1,3 @@
-use Prim.Native.Nat.{◌-◌}
 use native.Mathlib.Omega.{arith}
 use Rattle.exam_opening.proofs.Scan.{scan_starts, scan_hits, scan_on, scan_misses}
 use Rattle.exam_opening.proofs.index_of.Goals as goal

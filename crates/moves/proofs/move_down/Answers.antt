@@ -1,4 +1,3 @@
-use Prim.Native.Nat.{◌-◌}
 use native.Mathlib.Omega.{arith}
 use Rattle.moves.proofs.Moves.{move_starts, move_on, move_ends}
 use Rattle.moves.proofs.move_down.Goals as goal

@@ -1,4 +1,3 @@
-use Prim.Native.Nat.{◌-◌}
 use Rattle.words.proofs.Stores.{wipe_starts, wipe_on, wipe_ends}
 use Rattle.moves.proofs.wipe.Goals as goal
 

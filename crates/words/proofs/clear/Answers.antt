@@ -1,4 +1,4 @@
-use Rattle.std.proofs.Common.{◌-◌, arith}
+use Rattle.std.proofs.Common.{arith}
 use Rattle.words.proofs.Stores.{wipe_starts, wipe_on, clear_ends}
 use Rattle.words.proofs.clear.Goals as goal
 

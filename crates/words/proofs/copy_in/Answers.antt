@@ -1,4 +1,4 @@
-use Rattle.std.proofs.Common.{◌-◌, arith}
+use Rattle.std.proofs.Common.{arith}
 use Rattle.words.proofs.Moves.{copy_starts, copy_on, copy_ends}
 use Rattle.words.proofs.copy_in.Goals as goal
 

@@ -1,4 +1,4 @@
-use Rattle.std.proofs.Common.{◌-◌, refl, add-zero, arith, length-set}
+use Rattle.std.proofs.Common.{refl, add-zero, arith, length-set}
 use native.Mathlib.Nat.{sub-zero}
 use Rattle.words.proofs.Stores.{put_more, put_all}
 use Rattle.words.proofs.put_bytes.Goals as goal

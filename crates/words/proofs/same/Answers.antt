@@ -1,4 +1,4 @@
-use Rattle.std.proofs.Common.{◌-◌, arith}
+use Rattle.std.proofs.Common.{arith}
 use Rattle.words.proofs.Moves.{compare_unequal, compare_starts, compare_differs, compare_on, compare_ends}
 use Rattle.words.proofs.same.Goals as goal
 
