@@ -1,4 +1,4 @@
-use mathlib.Core.Path.{sym, ◌∙◌}
+use mathlib.Core.Path.{◌≡◌, sym, ◌∙◌}
 use native.Mathlib.Omega.{arith}
 use borrow.Author.Tests.{eq-eqb, ne_eqb}
 use Rattle.answers.proofs.Checks.{unless-passes, unless_fails, all_pass, fails_here, fails_later}
@@ -18,5 +18,6 @@ returns-then-not-is_table_length c =
 pub returns : goal.returns
 unfolding tables_number
 returns c =
-    fails_later _ _ _ (unless-passes _ _ (eq-eqb c.args.fcm c.args.dfcm (omega (arith, c.if-fcm-dfcm.false))))
+    let one_length : c.args.fcm ≡ c.args.dfcm = omega (arith, c.if-fcm-dfcm.false) in
+    fails_later _ _ _ (unless-passes _ _ (eq-eqb c.args.fcm c.args.dfcm one_length))
     (fails_later _ _ _ (unless-passes _ _ (sym c.is_table_length.ensures ∙ c.if-not-is_table_length.false)) all_pass)
