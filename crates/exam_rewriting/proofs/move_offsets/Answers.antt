@@ -1,4 +1,3 @@
-use Prim.Native.Nat.{◌-◌}
 use native.Mathlib.Omega.{arith}
 use Rattle.exam_rewriting.proofs.Offsets.{moving_starts, offset_fits, moving_on, moving_ends}
 use Rattle.exam_rewriting.proofs.move_offsets.Goals as goal

@@ -1,4 +1,3 @@
-use Prim.Native.Nat.{◌-◌}
 use native.Mathlib.Omega.{arith}
 use Rattle.exam_salvaging.proofs.Standing.{walk-starts, walk-within, walk_on, walk-stops, walk_ends}
 use Rattle.exam_salvaging.proofs.find_blocks.Goals as goal

@@ -1,4 +1,3 @@
-use Prim.Native.Nat.{◌-◌}
 use native.Mathlib.Omega.{arith}
 use Rattle.exam_salvaging.proofs.Listed.{list_starts, list_room, list_within, list_on, list_ends}
 use Rattle.exam_salvaging.proofs.put_entries.Goals as goal

@@ -1,4 +1,3 @@
-use Prim.Native.Nat.{◌-◌}
 use native.Mathlib.Omega.{arith}
 use Rattle.listing.proofs.Walks.{left-room, left_points, check_starts, check_stops, check_on, check_ends}
 use Rattle.listing.proofs.checking.blocks_number.Goals as goal

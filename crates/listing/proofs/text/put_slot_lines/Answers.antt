@@ -1,4 +1,3 @@
-use Prim.Native.Nat.{◌-◌}
 use native.Mathlib.Omega.{arith}
 use Rattle.listing.proofs.Walks.{left-room, left_points, left-long, write_starts, write_room, write_on, write_ends}
 use Rattle.listing.proofs.text.put_slot_lines.Goals as goal
