@@ -13,11 +13,10 @@ pub put_decimal-last-requires : goal.put_decimal-last-requires
 put_decimal-last-requires t c = (omega (arith, c.if-n-lt10.false), omega (arith, c.requires, length_more c.args.n (omega arith) c.if-n-lt10.false))
 
 pub put_digit-requires-2 : goal.put_digit-requires-2
-put_digit-requires-2 t c =
-    (
-      omega (arith, c.requires, length_more c.args.n (omega arith) c.if-n-lt10.false, c.put_decimal-last.ensures.ends, puts_long c.put_decimal-last.ensures),
-      omega arith,
-    )
+put_digit-requires-2 t c = (
+  omega (arith, c.requires, length_more c.args.n (omega arith) c.if-n-lt10.false, c.put_decimal-last.ensures.ends, puts_long c.put_decimal-last.ensures),
+  omega arith,
+)
 
 pub returns : goal.returns
 returns t c = more_digits (omega arith) c.if-n-lt10.false c.put_decimal-last.ensures c.put_digit-2.ensures
