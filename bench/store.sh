@@ -26,10 +26,10 @@ must_have() { # COMMAND...
 if [ "$machine" = x86_64 ]; then
     kind="libcoil.a as it is shipped"
     short_kind=$kind
-    compile_store() { (cd "$1" && rt staticlib coil) && cp "$1/target/staticlib/libcoil.a" "$2"; }
+    compile_store() { "$1/examples/build" coil && cp "$1/target/staticlib/libcoil.a" "$2"; }
 else
-    kind="the LLVM module of libcoil.a, compiled for this machine with the kit's own options (bench/native)"
-    short_kind="the LLVM module of libcoil.a, compiled for it by bench/native, not the shipped x86-64 code"
+    kind="libcoil.a, compiled by the kit for this machine (bench/native)"
+    short_kind="libcoil.a, compiled for it by bench/native, not the shipped x86-64 code"
     compile_store() { "$1/bench/native" "$2"; }
 fi
 

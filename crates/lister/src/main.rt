@@ -1,29 +1,62 @@
 // Lists the exam file on standard input on standard output.
-use libc::{STDERR_FILENO, STDOUT_FILENO};
+#![tactic(auto)]
+
+ghost use Rattle.std.specs.Prelude.{◌≡◌, OnOk, IfSome, IsErrOf};
+ghost use Rattle.std.specs.Io.KnownBytes.{Appends, Keeps};
+ghost use Rattle.lister.specs.Output.{lister_output, lister_errors};
+
+use std::io;
+use std::io::{Read, Write};
+use streams::Failure;
 
 // Lists what was read, and writes the text or the refusal. 66 bytes and 23 for each of 1,024 slots are
 // room for every text.
-fn answer_input(input: &[u8]) {
+fn answer_input<O: Write, E: Write>(input: &[u8], output: &mut O, errors: &mut E) -> io::Result<()>
+    ensures output { OnOk result
+        (Appends (O.contents output.old) (O.contents output.new) (lister_output input.now)) }
+    ensures errors { OnOk result
+        (Appends (E.contents errors.old) (E.contents errors.new) (lister_errors input.now)) }
+{
     let mut text = [0u8; 23618];
     let answer = listing::list(input, &mut text);
     if answer.number != 0 {
-        streams::say_refused(answer.number);
-        return;
+        return streams::say_refused(errors, answer.number);
     }
     let length = answer.length;
-    if !io::write_all(STDOUT_FILENO, &text[..length]) {
-        io::write_all(STDERR_FILENO, b"lister: the output could not be written\n");
+    output.write_all(&text[..length])
+}
+
+// Lists all that there is to read, and writes the answer to it and nothing else. Where the input cannot
+// be read, nothing is written.
+fn run<R: Read, O: Write, E: Write>(
+    reader: &mut R,
+    output: &mut O,
+    errors: &mut E,
+) -> Result<(), Failure>
+    ensures output { OnOk result (IfSome (R.remaining reader.old) (λ input.
+        Appends (O.contents output.old) (O.contents output.new) (lister_output input))) }
+    ensures errors { OnOk result (IfSome (R.remaining reader.old) (λ input.
+        Appends (E.contents errors.old) (E.contents errors.new) (lister_errors input))) }
+    ensures unread { IsErrOf result Failure.Unread →
+        Keeps (O.contents output.old) (O.contents output.new)
+        × Keeps (E.contents errors.old) (E.contents errors.new) }
+{
+    // One byte more than it takes: that byte is the refusal, and nothing beyond it is read.
+    let mut buffer = [0u8; 65537];
+    let input = streams::read_input(reader, &mut buffer);
+    if input.failed {
+        return Err(Failure::Unread);
+    }
+    let count = input.count;
+    match answer_input(&buffer[..count], output, errors) {
+        Ok(()) => Ok(()),
+        Err(_) => Err(Failure::Unwritten),
     }
 }
 
-fn main() {
-    // One byte more than it takes: that byte is the refusal, and nothing beyond it is read.
-    let mut buffer = [0u8; 65537];
-    let input = streams::read_input(&mut buffer);
-    if input.failed {
-        io::write_all(STDERR_FILENO, b"lister: the input could not be read\n");
-        return;
+fn main(rt: HostRuntime) -> io::Result<()> {
+    match run(&mut rt.stdin(), &mut rt.stdout(), &mut rt.stderr()) {
+        Ok(()) => Ok(()),
+        Err(failure) => eprintln!(rt; "lister: {failure}"),
     }
-    let count = input.count;
-    answer_input(&buffer[..count]);
 }

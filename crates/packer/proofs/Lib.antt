@@ -1,2 +1,4 @@
 pub mod Input
 pub mod Claims
+pub mod Output
+pub mod Reading

@@ -1,9 +1,35 @@
-// Standard input, and what a program says of a refusal. A read that fails is not the end of the
-// input, so the two are told apart.
-ghost use Rattle.std.specs.Prelude.{◌≡◌, true};
-ghost use Rattle.io.specs.Counts.{IsPrefixLen};
+// What a program reads, and what it says of a refusal. A read that fails is not the end of the input, so
+// the two are told apart.
+#![tactic(auto)]
 
-use libc::{STDERR_FILENO, STDIN_FILENO};
+ghost use Rattle.std.specs.Prelude.{◌≡◌, true, false, ◌<◌, ◌≤◌, take, length, OnOk, Some};
+ghost use Rattle.std.specs.Io.KnownBytes.{Appends, Consumes, IsAtEnd};
+ghost use Rattle.streams.specs.Failures.{failure_text};
+ghost use Rattle.streams.specs.Refusal.{refusal};
+
+use std::error::Error;
+use std::io::{Read, Write};
+use std::{fmt, io};
+
+// What ends a program with no answer: a read or a write that failed.
+#[derive(Clone, Copy, Debug)]
+pub enum Failure {
+    Unread,
+    Unwritten,
+}
+
+impl fmt::Display for Failure {
+    ghost output = { λ failure. Some (failure_text failure) };
+
+    fn fmt<W: fmt::Write>(&self, f: &mut fmt::Formatter<W>) -> fmt::Result {
+        match self {
+            Failure::Unread => f.write_str("the input could not be read"),
+            Failure::Unwritten => f.write_str("the output could not be written"),
+        }
+    }
+}
+
+impl Error for Failure {}
 
 // What reading answers: whether a read failed, and how many bytes came, 0 where one failed.
 #[derive(Clone, Copy)]
@@ -13,24 +39,41 @@ pub struct Input {
 }
 
 // Reads once into a part of a buffer. No byte and no failure is the end of the input.
-fn read_once(part: &mut [u8]) -> Input
-    ensures { IsPrefixLen result.count part.new }
+fn read_once<R: Read>(reader: &mut R, part: &mut [u8]) -> Input
+    ensures within { result.count ≤ length part.new }
+    ensures part { result.count ≡ length (take result.count part.new) }
+    ensures none { result.failed ≡ true → result.count ≡ 0 }
+    ensures bytes { result.failed ≡ false →
+        Consumes (R.remaining reader.old) (R.remaining reader.new) (take result.count part.new) }
+    ensures end { result.failed ≡ false → result.count ≡ 0 → 0 < length part.new →
+        IsAtEnd (R.remaining reader.new) }
 {
-    let got = libc::read(STDIN_FILENO, part);
-    Input {
-        failed: got < 0,
-        count: io::count(got, part),
+    match reader.read(part) {
+        Ok(count) => Input {
+            failed: false,
+            count,
+        },
+        Err(_) => Input {
+            failed: true,
+            count: 0,
+        },
     }
 }
 
-// Reads standard input into the start of a buffer until the input ends, the buffer is full or a read
-// fails. Where it answers that a read failed it counts nothing: no part may be taken for the whole.
-pub fn read_input(buffer: &mut [u8]) -> Input
-    ensures { (result.failed ≡ true → result.count ≡ 0) × IsPrefixLen result.count buffer.new }
+// Reads into the start of a buffer until the input ends, the buffer is full or a read fails. Where it
+// answers that a read failed it counts nothing: no part may be taken for the whole.
+pub fn read_input<R: Read>(reader: &mut R, buffer: &mut [u8]) -> Input
+    ensures none { result.failed ≡ true → result.count ≡ 0 }
+    ensures within { result.count ≤ length buffer.new }
+    ensures part { result.count ≡ length (take result.count buffer.new) }
+    ensures bytes { result.failed ≡ false →
+        Consumes (R.remaining reader.old) (R.remaining reader.new) (take result.count buffer.new) }
+    ensures end { result.failed ≡ false → result.count < length buffer.new →
+        IsAtEnd (R.remaining reader.new) }
 {
     let mut count: usize = 0;
     while count < buffer.len() {
-        let got = read_once(&mut buffer[count..]);
+        let got = read_once(reader, &mut buffer[count..]);
         if got.failed {
             return Input {
                 failed: true,
@@ -52,8 +95,77 @@ pub fn read_input(buffer: &mut [u8]) -> Input
 }
 
 // Says a refusal's number.
-pub fn say_refused(number: u32) {
-    io::write_all(STDERR_FILENO, b"refused ");
-    io::print_decimal(STDERR_FILENO, number as u64);
-    io::write_all(STDERR_FILENO, b"\n");
+pub fn say_refused<W: Write>(writer: &mut W, number: u32) -> io::Result<()>
+    ensures { OnOk result (Appends (W.contents writer.old) (W.contents writer.new) (refusal number)) }
+{
+    writeln!(writer, "refused {number}")
+}
+
+#[cfg(test)]
+mod tests {
+    use super::*;
+
+    // Gives a byte at each of so many reads, and then fails.
+    #[derive(Drop)]
+    struct Failing {
+        reads: usize,
+    }
+
+    impl Read for Failing {
+        fn read(&mut self, buf: &mut [u8]) -> io::Result<usize> {
+            if self.reads == 0 {
+                return Err(io::Error::from(io::ErrorKind::Other));
+            }
+            if buf.is_empty() {
+                return Ok(0);
+            }
+            self.reads -= 1;
+            buf[0] = b'x';
+            Ok(1)
+        }
+    }
+
+    #[test]
+    fn reads_to_the_end(rt: HostRuntime) {
+        let mut reader: &[u8] = b"abcde";
+        let mut buffer = [0u8; 8];
+        let input = read_input(&mut reader, &mut buffer);
+        assert!(rt; !input.failed);
+        assert_eq!(rt; input.count, 5);
+        assert_eq!(rt; &buffer, b"abcde\0\0\0");
+    }
+
+    #[test]
+    fn reads_no_more_than_the_buffer(rt: HostRuntime) {
+        let mut reader: &[u8] = b"abcde";
+        let mut buffer = [0u8; 4];
+        let input = read_input(&mut reader, &mut buffer);
+        assert!(rt; !input.failed);
+        assert_eq!(rt; input.count, 4);
+        assert_eq!(rt; &buffer, b"abcd");
+        assert_eq!(rt; reader, b"e".as_slice());
+    }
+
+    #[test]
+    fn tells_a_read_that_fails(rt: HostRuntime) {
+        let mut buffer = [0u8; 4];
+        for (reads, failed, count) in [(0, true, 0), (3, true, 0), (4, false, 4)] {
+            let mut reader = Failing { reads };
+            let input = read_input(&mut reader, &mut buffer);
+            assert_eq!(rt; input.failed, failed, "after {reads} reads");
+            assert_eq!(rt; input.count, count, "after {reads} reads");
+        }
+    }
+
+    #[test]
+    fn says_what_happened(rt: HostRuntime) -> io::Result<()> {
+        let mut said = Vec::new(rt.alloc());
+        say_refused(&mut said, 4)?;
+        say_refused(&mut said, u32::MAX)?;
+        write!(said, "{}, {}", Failure::Unread, Failure::Unwritten)?;
+        let want = b"refused 4\nrefused 4294967295\n\
+            the input could not be read, the output could not be written";
+        assert_eq!(rt; said.as_slice(), want.as_slice());
+        Ok(())
+    }
 }

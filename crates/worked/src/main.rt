@@ -4,25 +4,25 @@
 // runs these and all other cases from C.
 //
 // The prover pays for each lend to a call. So the cases here are few, and the files are written out.
+#![tactic(auto)]
+
 ghost use Rattle.std.specs.Prelude.{◌≡◌};
 
 use exams::Opened;
-use libc::STDOUT_FILENO;
+use std::io;
 
-fn show_text(bytes: &[u8]) {
-    io::write_all(STDOUT_FILENO, bytes);
+fn show_text(rt: &impl Print, text: &str) -> io::Result<()> {
+    print!(rt; "{text}")
 }
 
 // A label and a number.
-fn labelled(label: &[u8], n: u64) {
-    show_text(label);
-    io::print_decimal(STDOUT_FILENO, n);
+fn labelled(rt: &impl Print, label: &str, n: u64) -> io::Result<()> {
+    print!(rt; "{label}{n}")
 }
 
 // A byte in hex after a space.
-fn hex(byte: u64) {
-    show_text(b" ");
-    io::print_hex(STDOUT_FILENO, byte, 2);
+fn hex(rt: &impl Print, byte: u64) -> io::Result<()> {
+    print!(rt; " {byte:02x}")
 }
 
 // A byte as a word.
@@ -33,71 +33,70 @@ fn wide(b: u8) -> u64
 }
 
 // Each byte.
-fn show_bytes(bytes: &[u8]) {
-    let mut i = 0;
-    while i < bytes.len() {
-        hex(wide(bytes[i]));
-        i += 1;
+fn show_bytes(rt: &impl Print, bytes: &[u8]) -> io::Result<()> {
+    for b in bytes {
+        hex(rt, wide(*b))?;
     }
+    Ok(())
 }
 
 // Checks a block, and prints the answer.
-fn check(block: &[u8]) {
-    show_text(b"check");
-    show_bytes(block);
+fn check(rt: &impl Print, block: &[u8]) -> io::Result<()> {
+    show_text(rt, "check")?;
+    show_bytes(rt, block)?;
     let r = blocks::check(block);
-    labelled(b": answers ", r.number as u64);
-    labelled(b", count ", r.count as u64);
-    show_text(b"\n");
+    labelled(rt, ": answers ", r.number as u64)?;
+    labelled(rt, ", count ", r.count as u64)?;
+    show_text(rt, "\n")
 }
 
 // The ten bytes of word 1 with the last byte 00: a padded code, which no packer writes. Then a block as
 // it is, and with a byte added.
-fn checks() {
-    check(b"\x01\x00\x00\x00\x0A\x00\x00\x00\x67\x00");
-    check(b"\x03\x00\x00\x00\x0B\x00\x00\x00\x6F\xF7\x01");
-    check(b"\x03\x00\x00\x00\x0B\x00\x00\x00\x6F\xF7\x01\x00");
+fn checks(rt: &impl Print) -> io::Result<()> {
+    check(rt, b"\x01\x00\x00\x00\x0A\x00\x00\x00\x67\x00")?;
+    check(rt, b"\x03\x00\x00\x00\x0B\x00\x00\x00\x6F\xF7\x01")?;
+    check(rt, b"\x03\x00\x00\x00\x0B\x00\x00\x00\x6F\xF7\x01\x00")
 }
 
 // Opens the first bytes of a buffer, and prints the answer.
-fn open(file: &[u8], length: usize, exam: u64) {
-    labelled(b"open ", length as u64);
-    labelled(b" bytes for exam ", exam);
+fn open(rt: &impl Print, file: &[u8], length: usize, exam: u64) -> io::Result<()> {
+    labelled(rt, "open ", length as u64)?;
+    labelled(rt, " bytes for exam ", exam)?;
     let answer = exams::open(file, length, exam);
-    labelled(b": answers ", exams::opened_number(answer) as u64);
+    labelled(rt, ": answers ", exams::opened_number(answer) as u64)?;
     if let Opened::Done(trailer) = answer {
-        labelled(b", t ", trailer.t as u64);
-        labelled(b", entries ", trailer.entries as u64);
-        labelled(b", directory at ", trailer.start as u64);
+        labelled(rt, ", t ", trailer.t as u64)?;
+        labelled(rt, ", entries ", trailer.entries as u64)?;
+        labelled(rt, ", directory at ", trailer.start as u64)?;
     }
-    show_text(b"\n");
+    show_text(rt, "\n")
 }
 
 // Finds a slot, and prints its block.
-fn find(file: &[u8], length: usize, exam: u64, slot: u32) {
+fn find(rt: &impl Print, file: &[u8], length: usize, exam: u64, slot: u32) -> io::Result<()> {
     let mut number: u32 = 99;
-    labelled(b"find slot ", slot as u64);
-    labelled(b" of exam ", exam);
+    labelled(rt, "find slot ", slot as u64)?;
+    labelled(rt, " of exam ", exam)?;
     let block = exams::find(file, length, exam, slot, &mut number);
-    labelled(b": answers ", number as u64);
-    show_bytes(block);
-    show_text(b"\n");
+    labelled(rt, ": answers ", number as u64)?;
+    show_bytes(rt, block)?;
+    show_text(rt, "\n")
 }
 
 // The file of 53 bytes, and free room behind it: exam 7, t 10, and the one word 0 in slot 3.
-fn one_map() {
+fn one_map(rt: &impl Print) -> io::Result<()> {
     let file = b"\x01\x00\x00\x00\x09\x00\x00\x00\x77\
         \x03\x00\x00\x00\x00\x00\x00\x00\x09\x00\x00\x00\
         coil\x01\x00\x0A\x00\x07\x00\x00\x00\x00\x00\x00\x00\
         \x2C\x00\x00\x00\x01\x00\x00\x00\x35\x00\x00\x00\x00\x00\x00\x00\
         \xEE\xEE\xEE\xEE\xEE\xEE\xEE\xEE";
-    open(file, 53, 7);
-    find(file, 53, 7, 3);
+    open(rt, file, 53, 7)?;
+    find(rt, file, 53, 7, 3)
 }
 
 // The file of 101 bytes: one map, whose block holds the bytes of a directory and a trailer. Its first
 // 56 bytes open.
-fn cut() {
+fn cut(rt: &impl Print) -> io::Result<()> {
     let file = b"\x07\x00\x00\x00\x39\x00\x00\x00\x60\x31\x00\x07\
         \x01\x02\x03\x04\x00\x00\x00\x00\x0C\x00\x00\x00\
         coil\x01\x00\x00\x00\x10\x11\x12\x13\x14\x15\x16\x17\
@@ -106,23 +105,23 @@ fn cut() {
         \x03\x00\x00\x00\x00\x00\x00\x00\x39\x00\x00\x00\
         coil\x01\x00\x00\x00\x10\x11\x12\x13\x14\x15\x16\x17\
         \x2C\x00\x00\x00\x01\x00\x00\x00\x65\x00\x00\x00\x00\x00\x00\x00";
-    open(file, 56, 0x1716151413121110);
+    open(rt, file, 56, 0x1716151413121110)
 }
 
 // The file of 74 bytes: exam 7, t 1, and the one word 0 in slots 4 and 5.
-fn two_maps() {
+fn two_maps(rt: &impl Print) -> io::Result<()> {
     let file = b"\x01\x00\x00\x00\x09\x00\x00\x00\x77\
         \x01\x00\x00\x00\x09\x00\x00\x00\x77\
         \x04\x00\x00\x00\x00\x00\x00\x00\x09\x00\x00\x00\
         \x05\x00\x00\x00\x09\x00\x00\x00\x09\x00\x00\x00\
         coil\x01\x00\x01\x00\x07\x00\x00\x00\x00\x00\x00\x00\
         \x38\x00\x00\x00\x02\x00\x00\x00\x4A\x00\x00\x00\x00\x00\x00\x00";
-    open(file, 74, 7);
+    open(rt, file, 74, 7)
 }
 
 // The file of 75 bytes, and free room behind it: exam 7, t 1, the word 0 in slot 0 and the word 1 in
 // slot 2^32 - 1. Finding these, another slot, and another exam number.
-fn lowest_and_highest_slot() {
+fn lowest_and_highest_slot(rt: &impl Print) -> io::Result<()> {
     let file = b"\x01\x00\x00\x00\x09\x00\x00\x00\x77\
         \x01\x00\x00\x00\x0A\x00\x00\x00\x67\x01\
         \x00\x00\x00\x00\x00\x00\x00\x00\x09\x00\x00\x00\
@@ -130,16 +129,16 @@ fn lowest_and_highest_slot() {
         coil\x01\x00\x01\x00\x07\x00\x00\x00\x00\x00\x00\x00\
         \x38\x00\x00\x00\x02\x00\x00\x00\x4B\x00\x00\x00\x00\x00\x00\x00\
         \xEE\xEE\xEE\xEE\xEE\xEE\xEE\xEE";
-    find(file, 75, 7, 0);
-    find(file, 75, 7, 0xFFFFFFFF);
-    find(file, 75, 7, 1);
-    find(file, 75, 8, 0);
+    find(rt, file, 75, 7, 0)?;
+    find(rt, file, 75, 7, 0xFFFFFFFF)?;
+    find(rt, file, 75, 7, 1)?;
+    find(rt, file, 75, 8, 0)
 }
 
-fn main() {
-    checks();
-    one_map();
-    cut();
-    two_maps();
-    lowest_and_highest_slot();
+fn main(rt: HostRuntime) -> io::Result<()> {
+    checks(&rt)?;
+    one_map(&rt)?;
+    cut(&rt)?;
+    two_maps(&rt)?;
+    lowest_and_highest_slot(&rt)
 }
