@@ -1,5 +1,5 @@
 -- A read puts its bytes behind those that came before, and both were consumed.
-use Rattle.std.proofs.Common.{◌≡◌, ℕ, ◌+◌, ◌≤◌, List, ◌++◌, length, take, ap, sym, ◌∙◌, subst, rules, length-take-le}
+use Rattle.std.proofs.Common.{◌≡◌, refl, ℕ, ◌+◌, ◌≤◌, List, ◌++◌, length, take, ap, sym, ◌∙◌, subst, rules, length-take-le}
 use Rattle.std.proofs.lemmas.List.{places, take-append-le}
 use Rattle.std.proofs.Math.Seq.{take-append-add}
 use Rattle.std.specs.Io.KnownBytes.{Consumes}
@@ -22,3 +22,7 @@ loop-count-preserved g c =
       within = search (rules, places);
       bytes = subst (Consumes _ _) (sym (take_more _ _ _ _ _ before.within read.within)) (Consumes-trans _ _ _ _ _ before.bytes (read.bytes c.if-got.false));
     }
+
+-- where a read failed, nothing is counted
+pub returns-then-got-clause-none : goal.returns-then-got-clause-none
+returns-then-got-clause-none g c = λ e. refl

@@ -8,8 +8,8 @@ use Rattle.block_choice.proofs.choice.chosen.Goals.{then-by_fcm-by_dfcm, else-by
 taken : (c : goal.Joined-by_fcm-by_dfcm) → Taken c.args.by_fcm c.args.by_dfcm c.if-by_fcm-by_dfcm.top c.if-by_fcm-by_dfcm.zeros c.if-by_fcm-by_dfcm.residual
 taken c =
     elim c.if-by_fcm-by_dfcm.branch [
-      | then-by_fcm-by_dfcm w ↦ taken_dfcm (omega arith) c.requires.1 w.if-by_fcm-by_dfcm.true w.top-is w.residual-is (w.zeros-is ∙ w.zero_bytes-zeros-then-by_fcm-by_dfcm.ensures)
-      | else-by_fcm-by_dfcm w ↦ taken_fcm (omega arith) c.requires.0 w.if-by_fcm-by_dfcm.false w.top-is w.residual-is (w.zeros-is ∙ c.zero_bytes-zeros.ensures)
+      | then-by_fcm-by_dfcm w ↦ taken_dfcm (omega arith) c.requires.1 (omega (arith, w.if-by_fcm-by_dfcm.true)) w.top-is w.residual-is (w.zeros-is ∙ w.zero_bytes-zeros-then-by_fcm-by_dfcm.ensures)
+      | else-by_fcm-by_dfcm w ↦ taken_fcm (omega arith) c.requires.0 (omega (arith, w.if-by_fcm-by_dfcm.false)) w.top-is w.residual-is (w.zeros-is ∙ c.zero_bytes-zeros.ensures)
     ]
 
 pub low_three-requires : goal.low_three-requires
