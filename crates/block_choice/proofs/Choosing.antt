@@ -6,7 +6,7 @@ use lib.Count.{count_leading_zeros}
 use Rattle.words.specs.Words.{zero_bytes}
 use Rattle.words.proofs.Zeros.{zeros-some}
 use Rattle.block_rules.specs.Codes.{dfcm_chosen, low_three, coded_by, chosen}
-use Rattle.block_rules.proofs.Codes.{chosen-dfcm, chosen-fcm}
+use Rattle.block_rules.proofs.Choices.{chosen-dfcm, chosen-fcm}
 use Rattle.block_rules.proofs.Choices.{more_bits, no_more_bits}
 
 -- the top bit of its code, its leading zero bytes, and itself

@@ -13,8 +13,7 @@ use Rattle.words.specs.Words.{zero_bytes}
 use Rattle.words.proofs.Tests.{either}
 use Rattle.words.proofs.Zeros.{zeros-at_most, zeros_within, pow_256_le, zeros_by_bits}
 use Rattle.block_rules.specs.Predictors.{Memory, dfcm_prediction, fcm_prediction}
-use Rattle.block_rules.specs.Codes.{Choice, dfcm_chosen, dfcm_chosen_by_bytes, Thrifty, low_three, written, coded_by, chosen, coded_word, fcm_residual, dfcm_residual, named_prediction}
-use Rattle.block_rules.specs.declared.Coded.{Coded}
+use Rattle.block_rules.specs.Codes.{dfcm_chosen, dfcm_chosen_by_bytes, Thrifty, low_three, written, coded_by, named_prediction}
 
 -- ---- the tables
 
@@ -121,23 +120,6 @@ bytes-thrifty =
       dfcm = λ f d e. omega (arith, ltb-true (zero_bytes f) (zero_bytes d) e);
       fcm = λ f d e. ltb-false (zero_bytes f) (zero_bytes d) e;
     }
-
-pub chosen-dfcm : (choice : Choice) (f d : ℕ) (r : Coded) → choice f d ≡ true → r ≡ coded_by true d → r ≡ chosen choice f d
-unfolding chosen
-chosen-dfcm choice f d r e q = rw e q
-
-pub chosen-fcm : (choice : Choice) (f d : ℕ) (r : Coded) → choice f d ≡ false → r ≡ coded_by false f → r ≡ chosen choice f d
-unfolding chosen
-chosen-fcm choice f d r e q = rw e q
-
--- what holds of each residual with its code holds of the chosen one
-pub whichever : (choice : Choice) (P : Coded → Type 0) (f d : ℕ) → P (coded_by true d) → P (coded_by false f) → P (chosen choice f d)
-unfolding chosen
-whichever choice P f d p q = either (choice f d) (λ e. rw e p) (λ e. rw e q)
-
-pub coded-small : (choice : Choice) (m : Memory) (v : ℕ) → (coded_word choice m v).code ≤ 15
-unfolding coded_word
-coded-small choice m v = whichever choice (λ (c : Coded). c.code ≤ 15) (fcm_residual m v) (dfcm_residual m v) (code-small true _) (code-small false _)
 
 -- ---- what is written is enough
 

@@ -10,7 +10,8 @@ use Rattle.block_rules.specs.Codes.{dfcm_chosen, low_three, written, coded_by, c
 use Rattle.block_rules.specs.Inside.{memory}
 use Rattle.block_rules.specs.declared.Coded.{Coded}
 use Rattle.block_rules.specs.declared.Carry.{Carry}
-use Rattle.block_rules.proofs.Codes.{written_small, chosen-fcm, chosen-dfcm, coded-small}
+use Rattle.block_rules.proofs.Codes.{written_small}
+use Rattle.block_rules.proofs.Choices.{chosen-fcm, chosen-dfcm, coded-small}
 use Rattle.block_rules.proofs.Choices.{zero_by_fcm, zero_by_dfcm}
 use Rattle.block_rules.proofs.Lengths.{length_residual}
 use Rattle.block_staging.specs.Inside.{StagesChosen, StagesWord, StagesPair}
