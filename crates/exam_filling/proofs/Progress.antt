@@ -1,7 +1,7 @@
 -- From record to record what is left to do gives the same outcome.
 use mathlib.Core.Path.{◌≡◌, refl, sym, ap, ◌∙◌}
 use mathlib.Core.List.{List, ◌∷◌}
-use mathlib.Core.Bool.{false, cond}
+use mathlib.Core.Bool.{cond}
 use Prim.Native.Nat.{ℕ, zero, suc, ◌+◌, ◌-◌, ◌≤◌, ◌<◌}
 use native.Mathlib.Omega.{arith}
 use native.Mathlib.Numerals.{add-one}
@@ -24,7 +24,7 @@ use Rattle.exam_records.specs.declared.Progress.{Progress}
 abbrev pub blank_record : Record
 blank_record = record { slot = 0; first = 0; count = 0 }
 
--- what is answered where noRecord is left to do
+-- what is answered where no record is left to do
 abbrev pub answer : Progress → Filled
 answer p = record { number = p.number; appended = p.appended; length = p.length }
 
@@ -33,10 +33,7 @@ module _ (words : List ℕ) (rs : List Record) where
   abbrev pub finish : Progress → Lent → Filled × Lent
   finish p s = cond (ltb p.appended p.stop) (each_appended words (drop p.appended rs) p.appended p.length s) (answer p, s)
 
-  pub ended : (p : Progress) (s : Lent) → ltb p.appended p.stop ≡ false → (answer p, s) ≡ finish p s
-  ended p s e = rw e refl
-
-  -- where noRecord was refused, the records that are left are appended, also where noRecord is left
+  -- where no record was refused, those that are left are appended, also where none is left
   goes_on : (k l n : ℕ) (s : Lent) → n ≡ length rs → finish (record { number = 0; appended = k; length = l; stop = n }) s ≡ each_appended words (drop k rs) k l s
   goes_on k l n s e =
       either (ltb k n) (λ t. rw t refl)
@@ -44,7 +41,7 @@ module _ (words : List ℕ) (rs : List Record) where
       let past : length rs ≤ k = omega (arith, ltb-false k n t, e) in
       rw (t, drop_of_length-le rs past, each_none words k l s, afterwards-new 0 l (length_kept k l) refl) refl)
 
-  -- where one was refused, noRecord is left to do
+  -- where one was refused, none is left to do
   stopped : (n k l : ℕ) (s : Lent) → finish (refused n k l) s ≡ (filled n k l, s)
   stopped n k l s = rw (le-ltb k k (omega arith)) refl
 

@@ -1,36 +1,25 @@
--- What is written for an answer: the block or the refusal, and nothing else.
-use Rattle.std.proofs.Common.{◌≡◌, ℕ, List, [], length, take, sym, ap, ◌∙◌}
-use Rattle.std.proofs.Math.Seq.{take-append_seam}
-use Rattle.answers.specs.Answers.{over}
-use Rattle.answers.proofs.Checks.{afterwards-new, afterwards-old}
+-- What is written for an answer is what the program writes for its input.
+use Rattle.std.proofs.Common.{◌≡◌, ℕ, List, length, take, sym, ap, ◌∙◌}
 use Rattle.block_rules.specs.Calls.{packed}
 use Rattle.block_rules.specs.declared.Packed.{Packed}
-use Rattle.streams.specs.Refusal.{refusal}
+use Rattle.streams.specs.Refusal.{output_of, errors_of}
+use Rattle.streams.proofs.Written.{done-output}
 use Rattle.packer.specs.Program.{packer_number, packer_block, Answers}
 use Rattle.packer.specs.Output.{packer_output, packer_errors}
 
 module _ {input fcm dfcm out fcm' dfcm' out' : List ℕ} {r : Packed} (a : Answers input fcm dfcm out r fcm' dfcm' out') where
-  -- the answer's number is the input's
-  number_is : r.number ≡ packer_number (length input)
+  number_is : packer_number (length input) ≡ r.number
   unfolding packed
-  number_is = ap (λ (x : Packed). x.number) a.answer
+  number_is = sym (ap (λ (x : Packed). x.number) a.answer)
 
-  pub refused-output : (r.number ≡ 0 → ⊥) → packer_output input ≡ []
+  pub output_is : packer_output input ≡ output_of r.number (packer_block input)
   unfolding packer_output
-  refused-output h = afterwards-old _ _ _ (λ z. h (number_is ∙ z))
+  output_is = ap (λ k. output_of k (packer_block input)) number_is
 
-  pub refused-errors : (r.number ≡ 0 → ⊥) → packer_errors input ≡ refusal r.number
+  pub errors_is : packer_errors input ≡ errors_of r.number
   unfolding packer_errors
-  refused-errors h = afterwards-old _ _ _ (λ z. h (number_is ∙ z)) ∙ ap refusal (sym number_is)
+  errors_is = ap errors_of number_is
 
-  pub done-errors : r.number ≡ 0 → packer_errors input ≡ []
-  unfolding packer_errors
-  done-errors z = afterwards-new _ _ _ (sym number_is ∙ z)
-
-  pub done-output : r.number ≡ 0 → packer_output input ≡ take r.length out'
+  pub block_is : r.number ≡ 0 → packer_output input ≡ take r.length out'
   unfolding packer_output packed
-  done-output z =
-      let k : packer_number (length input) ≡ 0 = sym number_is ∙ z in
-      let long : r.length ≡ length (packer_block input) = ap (λ (x : Packed). x.length) a.answer ∙ afterwards-new _ _ _ k in
-      let whole : out' ≡ over (packer_block input) out = a.out_left ∙ afterwards-new _ _ _ k in
-      afterwards-new _ _ _ k ∙ sym (ap (take r.length) whole ∙ ap (λ n. take n (over (packer_block input) out)) long ∙ take-append_seam (packer_block input) _)
+  block_is z = done-output (number_is ∙ z) r.length (packer_block input) out out' (ap (λ (x : Packed). x.length) a.answer) a.out_left

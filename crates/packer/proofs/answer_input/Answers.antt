@@ -1,19 +1,20 @@
 -- What the answer to the input makes the program write.
-use Rattle.std.proofs.Common.{sym, subst, length-take-le}
+use Rattle.std.proofs.Common.{sym, ◌∙◌, subst, length-take-le}
 use Rattle.std.proofs.lemmas.Result.{on_ok_weaker}
 use Rattle.std.specs.Io.KnownBytes.{Appends}
 use Rattle.std.proofs.KnownBytes.{Appends-nil}
 use Rattle.packer.proofs.Input.{answer_fits}
-use Rattle.packer.proofs.Output.{refused-output, refused-errors, done-output, done-errors}
+use Rattle.streams.proofs.Written.{refused-output, refused-errors, done-errors}
+use Rattle.packer.proofs.Output.{output_is, errors_is, block_is}
 use Rattle.packer.proofs.answer_input.Goals as goal
 
 pub returns-then-answer-ne0-clause-output : goal.returns-then-answer-ne0-clause-output
 returns-then-answer-ne0-clause-output g c =
-    on_ok_weaker c.say_refused.result (λ _. subst (Appends _ _) (sym (refused-output c.pack_input-answer.ensures c.if-answer-ne0.true)) (Appends-nil _)) c.say_refused.ensures
+    on_ok_weaker c.say_refused.result (λ _. subst (Appends _ _) (sym (output_is c.pack_input-answer.ensures ∙ refused-output c.if-answer-ne0.true _)) (Appends-nil _)) c.say_refused.ensures
 
 pub returns-then-answer-ne0-clause-errors : goal.returns-then-answer-ne0-clause-errors
 returns-then-answer-ne0-clause-errors g c =
-    on_ok_weaker c.say_refused.result (subst (Appends _ _) (sym (refused-errors c.pack_input-answer.ensures c.if-answer-ne0.true))) c.say_refused.ensures
+    on_ok_weaker c.say_refused.result (subst (Appends _ _) (sym (errors_is c.pack_input-answer.ensures ∙ refused-errors c.if-answer-ne0.true))) c.say_refused.ensures
 
 pub slice_bounds-out-end : goal.slice_bounds-out-end
 slice_bounds-out-end g c = answer_fits c.pack_input-answer.ensures
@@ -23,8 +24,8 @@ slice_bounds-write_all-end g c = sym (length-take-le _ _ (answer_fits c.pack_inp
 
 pub returns-clause-output : goal.returns-clause-output
 returns-clause-output g c =
-    on_ok_weaker c.write_all.result (subst (Appends _ _) (sym (done-output c.pack_input-answer.ensures c.if-answer-ne0.false))) c.write_all.ensures.bytes
+    on_ok_weaker c.write_all.result (subst (Appends _ _) (sym (block_is c.pack_input-answer.ensures c.if-answer-ne0.false))) c.write_all.ensures.bytes
 
 pub returns-clause-errors : goal.returns-clause-errors
 returns-clause-errors g c =
-    on_ok_weaker c.write_all.result (λ _. subst (Appends _ _) (sym (done-errors c.pack_input-answer.ensures c.if-answer-ne0.false)) (Appends-nil _)) c.write_all.ensures.bytes
+    on_ok_weaker c.write_all.result (λ _. subst (Appends _ _) (sym (errors_is c.pack_input-answer.ensures ∙ done-errors c.if-answer-ne0.false)) (Appends-nil _)) c.write_all.ensures.bytes
