@@ -4,8 +4,11 @@
 ghost use Rattle.std.specs.Prelude.{◌≡◌, ◌+◌, ◌/◌, ◌%◌, ◌≤◌, ◌<◌, length, get_or, drop};
 ghost use Rattle.block_rules.specs.Codes.{written};
 ghost use Rattle.block_rules.specs.Block.{count, halves, counted_codes, residual_length};
-ghost use Rattle.block_rules.specs.Numbers.{filler_stands, block_number};
+ghost use Rattle.block_rules.specs.Numbers.{filler_stands};
+ghost use Rattle.block_rules.specs.Calls.{checked, checked_told};
 ghost use Rattle.block_rules.specs.Inside.{Counted};
+
+use answers::Refusal;
 
 // The word count that a block declares.
 pub fn count(block: &[u8]) -> usize
@@ -65,33 +68,33 @@ fn filler_stands(block: &[u8], n: usize) -> bool
     }
 }
 
-// The number that check answers.
-pub fn block_number(block: &[u8]) -> u32
-    ensures { result ≡ block_number block.now }
+// Checks a block. Answers its word count.
+pub fn check(block: &[u8]) -> Result<usize, Refusal>
+    ensures { checked_told result ≡ checked block.now }
 {
     let length = block.len();
     if length < 8 {
-        return 4;
+        return Err(Refusal::TooShort);
     }
     let n = count(block);
     if 65536 < n {
-        return 2;
+        return Err(Refusal::TooManyWords);
     }
     if words::get_bytes(block, 4, 4) != length as u64 {
-        return 5;
+        return Err(Refusal::Lengths);
     }
     let start = 8 + (n + 1) / 2;
     if length < start {
-        return 5;
+        return Err(Refusal::Lengths);
     }
     if length != start + residual_length(block, n) {
-        return 5;
+        return Err(Refusal::Lengths);
     }
     if !filler_stands(block, n) {
-        return 6;
+        return Err(Refusal::Filler);
     }
     if !block_padding::none_padded(block, n) {
-        return 13;
+        return Err(Refusal::Padded);
     }
-    0
+    Ok(n)
 }

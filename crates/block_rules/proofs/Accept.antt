@@ -12,11 +12,9 @@ use Rattle.words.specs.Bytes.{number}
 use Rattle.words.proofs.Tests.{either}
 use Rattle.answers.proofs.Checks.{unless-passes, unless_fails, unless_holds, all_pass, fails_here, fails_later, none_fails, none_above, at_most, afterwards-new, afterwards-old}
 use Rattle.block_rules.specs.Block.{block, count, stated_length, residuals_at, counted_codes, last_half, residual_length, coded_in, none_padded}
-use Rattle.block_rules.specs.Calls.{packed, packs_number, Packs, checked, unpacked, UnpacksWhere}
+use Rattle.block_rules.specs.Calls.{packed, packs_number, Packs, checked, unpacked, UnpacksWhere, Packed, Unpacked}
 use Rattle.block_rules.specs.Numbers.{pack_number, filler_stands, form_number, block_number, unpack_number, t_of}
 use Rattle.block_rules.specs.Inside.{Packable, PacksAll, Counted, Unpackable, UnpacksAll}
-use Rattle.block_rules.specs.declared.Packed.{Packed}
-use Rattle.block_rules.specs.declared.Unpacked.{Unpacked}
 use Rattle.block_rules.proofs.Tables.{tables-sized, sized-tables}
 use Rattle.block_rules.proofs.Order.{takes_form, tight-takes, form_first, padded_thirteen}
 

@@ -1,12 +1,36 @@
 -- What each call answers, and what it leaves in everything lent to it, refused or not.
-use Rattle.std.specs.Prelude.{◌≡◌, ℕ, List, length}
+use Rattle.std.specs.Prelude.{◌≡◌, ℕ, List, length, Result}
 use Rattle.answers.specs.Answers.{afterwards, over}
+use Rattle.answers.specs.Refusals.{number_told, value_told}
 use Rattle.block_rules.specs.Predictors.{Memory, cleared, after}
 use Rattle.block_rules.specs.Block.{block, count, words_in}
 use Rattle.block_rules.specs.Numbers.{t_of, pack_number, block_number, unpack_number}
-use Rattle.block_rules.specs.declared.Packed.{Packed}
-use Rattle.block_rules.specs.declared.Checked.{Checked}
-use Rattle.block_rules.specs.declared.Unpacked.{Unpacked}
+use Rattle.answers.specs.declared.Refusal.{Refusal}
+
+-- what pack tells: the number, and the block's length or 0
+pub record Packed : Type 0 where
+  pub number : ℕ
+  pub length : ℕ
+
+-- what check tells: the number, and the word count or 0
+pub record Checked : Type 0 where
+  pub number : ℕ
+  pub count : ℕ
+
+-- what unpack tells: the number, and the word count or 0
+pub record Unpacked : Type 0 where
+  pub number : ℕ
+  pub count : ℕ
+
+-- what their answers tell: a length or a count, or a refusal
+abbrev pub packed_told : Result ℕ Refusal → Packed
+packed_told r = record { number = number_told r; length = value_told (λ n. n) r }
+
+abbrev pub checked_told : Result ℕ Refusal → Checked
+checked_told r = record { number = number_told r; count = value_told (λ n. n) r }
+
+abbrev pub unpacked_told : Result ℕ Refusal → Unpacked
+unpacked_told r = record { number = number_told r; count = value_told (λ n. n) r }
 
 -- pack answers the number, and the block's length or 0 where it is refused
 unfoldable pub packed : ℕ → List ℕ → Packed

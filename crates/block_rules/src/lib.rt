@@ -17,24 +17,3 @@ pub struct Coded {
     pub code: u8,
     pub residual: u64,
 }
-
-// What pack answers: the number, and the block's length or 0.
-#[derive(Clone, Copy)]
-pub struct Packed {
-    pub number: u32,
-    pub length: usize,
-}
-
-// What check answers: the number, and the word count or 0.
-#[derive(Clone, Copy)]
-pub struct Checked {
-    pub number: u32,
-    pub count: usize,
-}
-
-// What unpack answers: the number, and the word count or 0.
-#[derive(Clone, Copy)]
-pub struct Unpacked {
-    pub number: u32,
-    pub count: usize,
-}

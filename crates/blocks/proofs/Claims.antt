@@ -14,12 +14,9 @@ use Rattle.block_rules.specs.Codes.{Choice, dfcm_chosen, dfcm_chosen_by_bytes}
 use Rattle.block_rules.specs.Block.{block_by, block, worst, count, stated_length, residuals_at, counted_codes, last_half, residual_length, coded_in, none_padded}
 use Rattle.block_rules.specs.Forms.{named}
 use Rattle.block_rules.specs.Room.{Cut, bound, closer_bound, BlockFor}
-use Rattle.block_rules.specs.Calls.{packed, packs_number, Packs, checked, Unpacks}
+use Rattle.block_rules.specs.Calls.{packed, packs_number, Packs, checked, Unpacks, Packed, Checked, Unpacked}
 use Rattle.block_rules.specs.Numbers.{t_of, tables_number}
 use Rattle.block_rules.specs.Inside.{Sized, PacksAll, UnpacksAll}
-use Rattle.block_rules.specs.declared.Packed.{Packed}
-use Rattle.block_rules.specs.declared.Checked.{Checked}
-use Rattle.block_rules.specs.declared.Unpacked.{Unpacked}
 use Rattle.block_rules.proofs.Tables.{t_of_power, sized-power, tables-sized, sized-tables}
 use Rattle.block_rules.proofs.Accept.{packable, packable-packs, whole, whole_forms, unpackable, unpackable-unpacks, packs-number, checks-number, packs_all_of, where_number, where_all, where_nothing, where_one_answer, where_forgets, unpacked_of, check_done, filler_needs, filler_has}
 use Rattle.block_rules.proofs.Order.{takes_form, takes-tight, tight-takes}

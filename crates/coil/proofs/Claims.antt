@@ -16,9 +16,7 @@ use Rattle.block_rules.specs.Block.{block_by, stated_length, coded_in}
 use Rattle.block_rules.specs.Numbers.{t_of, form_number, block_number}
 use Rattle.block_rules.specs.Forms.{HasPadded, named}
 use Rattle.block_rules.specs.Room.{BlockFor}
-use Rattle.block_rules.specs.declared.Packed.{Packed}
-use Rattle.block_rules.specs.declared.Checked.{Checked}
-use Rattle.block_rules.specs.declared.Unpacked.{Unpacked}
+use Rattle.block_rules.specs.Calls.{Packed, Checked, Unpacked}
 use Rattle.block_rules.proofs.Accept.{thirteen_tells, checks-number}
 use Rattle.block_rules.proofs.Order.{takes_form}
 use Rattle.block_rules.proofs.Claims.{packed_before_checks, padded-answers}
@@ -27,14 +25,10 @@ use Rattle.exam_rules.specs.File.{Entry, file_length, file_bytes, block_of, empt
 use Rattle.exam_rules.specs.Pieces.{blocks_of, file_of_pieces}
 use Rattle.exam_rules.specs.Reading.{exam_in, file_in, entry_of}
 use Rattle.exam_rules.specs.Numbers.{open_in_number, find_number, block_in, next_slot}
-use Rattle.exam_rules.specs.Calls.{opened, opened_t, opened_entries, located, Lent, lent, words_of, filled}
+use Rattle.exam_rules.specs.Calls.{opened, opened_t, opened_entries, located, Lent, lent, words_of, filled, Located, Made, Filled, Salvaged}
 use Rattle.exam_rules.specs.Salvage.{block_stands, whole_blocks, numbered, salvaged_file}
 use Rattle.exam_rules.specs.Maps.{Map, file_of, changed, renumbered_from}
-use Rattle.exam_rules.specs.declared.Located.{Located}
-use Rattle.exam_rules.specs.declared.Made.{Made}
 use Rattle.exam_rules.specs.declared.Record.{Record}
-use Rattle.exam_rules.specs.declared.Filled.{Filled}
-use Rattle.exam_rules.specs.declared.Salvaged.{Salvaged}
 use Rattle.exam_rules.proofs.Accept.{ReplaceTakes, AppendAllTakes, foretold, SalvageTakes}
 use Rattle.exam_rules.proofs.Kept.{found_part}
 use Rattle.exam_rules.proofs.Exchanged.{found-old}

@@ -14,11 +14,9 @@ use Rattle.block_rules.proofs.Round.{written-block}
 use Rattle.exam_rules.specs.File.{Entry, entry, entry_bytes, directory_bytes, trailer_bytes, file_length, file_bytes, appended}
 use Rattle.exam_rules.specs.Reading.{entry_at, entries_at, file_in}
 use Rattle.exam_rules.specs.Numbers.{next_slot, append_number}
-use Rattle.exam_rules.specs.Calls.{opened, opened_number, appends_number, Appends}
+use Rattle.exam_rules.specs.Calls.{opened, opened_number, appends_number, Appends, Opened, Done, Refused}
 use Rattle.exam_rules.specs.Inside.{Standing}
 use Rattle.exam_rules.specs.declared.Trailer.{Trailer}
-use Rattle.exam_rules.specs.declared.Opened.{Opened}
-use Rattle.exam_rules.specs.declared.Opened.TheVariants.{Done, Refused}
 use Rattle.exam_rules.proofs.Opens.{refused-tells, done-tells, standing}
 use Rattle.exam_rules.proofs.Parts.{tells-edition, tells-t, tells-entries, tells-start, entries_are, t-small}
 use Rattle.exam_rules.proofs.Changes.{append-stopped, change_done, makes}

@@ -11,16 +11,14 @@ use Rattle.answers.specs.Answers.{first_failure}
 use Rattle.answers.proofs.Checks.{unless_holds, fails_here, fails_later, last_decides, none_fails, afterwards-new}
 use Rattle.block_rules.specs.Numbers.{t_of}
 use Rattle.block_rules.specs.Inside.{Unpackable, UnpacksAll}
-use Rattle.block_rules.specs.declared.Unpacked.{Unpacked}
+use Rattle.block_rules.specs.Calls.{Unpacked}
 use Rattle.block_rules.proofs.Tables.{sized-power, t_of_power}
 use Rattle.block_rules.proofs.Accept.{where_refused, where_done}
 use Rattle.exam_rules.specs.Reading.{file_in}
 use Rattle.exam_rules.specs.Numbers.{open_in_number, slot_number, find_number, block_in, found_number, fetch_number}
-use Rattle.exam_rules.specs.Calls.{opened, opened_number, fetches_number, Fetches}
+use Rattle.exam_rules.specs.Calls.{opened, opened_number, fetches_number, Fetches, Opened, Done, Refused}
 use Rattle.exam_rules.specs.Inside.{Standing}
 use Rattle.exam_rules.specs.declared.Trailer.{Trailer}
-use Rattle.exam_rules.specs.declared.Opened.{Opened}
-use Rattle.exam_rules.specs.declared.Opened.TheVariants.{Done, Refused}
 use Rattle.exam_rules.proofs.Opens.{refused-tells, done-tells}
 use Rattle.exam_rules.proofs.Parts.{tells-t, t-small}
 use Rattle.exam_rules.proofs.Accept.{tables_tell}

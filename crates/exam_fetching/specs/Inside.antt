@@ -1,7 +1,6 @@
 -- What the inner functions require and ensure. No promise of a call is stated here.
 use Rattle.std.specs.Prelude.{ℕ, List, length}
-use Rattle.block_rules.specs.Calls.{UnpacksWhere}
-use Rattle.block_rules.specs.declared.Unpacked.{Unpacked}
+use Rattle.block_rules.specs.Calls.{UnpacksWhere, Unpacked}
 use Rattle.exam_rules.specs.File.{block_of}
 use Rattle.exam_rules.specs.Reading.{file_in, entry_of}
 use Rattle.exam_rules.specs.Numbers.{slot_number, found_number}

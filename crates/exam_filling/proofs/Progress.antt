@@ -12,10 +12,8 @@ use borrow.Author.Tests.{lt-ltb, le-ltb, ltb-false, eqb-true, eqb-false}
 use Rattle.words.proofs.Tests.{either}
 use Rattle.answers.proofs.Checks.{afterwards-new, afterwards-old}
 use Rattle.exam_rules.specs.Numbers.{open_in_number}
-use Rattle.exam_rules.specs.Calls.{Lent, lent, record_appended, length_kept, filled, each_appended, all_appended}
-use Rattle.exam_rules.specs.declared.Made.{Made}
+use Rattle.exam_rules.specs.Calls.{Lent, lent, record_appended, length_kept, filled, each_appended, all_appended, Made, Filled}
 use Rattle.exam_rules.specs.declared.Record.{Record}
-use Rattle.exam_rules.specs.declared.Filled.{Filled}
 use Rattle.exam_rules.proofs.Filling.{each_goes_on, each_stops, each_none, all-opened, all-refused}
 use Rattle.exam_records.specs.Inside.{refused, begun, gone, stepped, Steps}
 use Rattle.exam_records.specs.declared.Progress.{Progress}

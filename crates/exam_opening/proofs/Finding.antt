@@ -10,11 +10,9 @@ use Rattle.answers.proofs.Checks.{fails_here, fails_later, last_decides, afterwa
 use Rattle.exam_rules.specs.File.{Entry, block_of, entry}
 use Rattle.exam_rules.specs.Reading.{file_in, index_of, entry_of, entries_at, entry_at, directory_at, entries_in}
 use Rattle.exam_rules.specs.Numbers.{slot_number, find_number, block_in}
-use Rattle.exam_rules.specs.Calls.{opened, opened_number, Finds, located}
+use Rattle.exam_rules.specs.Calls.{opened, opened_number, Finds, located, Opened, Done, Refused}
 use Rattle.exam_rules.specs.Inside.{Standing}
 use Rattle.exam_rules.specs.declared.Trailer.{Trailer}
-use Rattle.exam_rules.specs.declared.Opened.{Opened}
-use Rattle.exam_rules.specs.declared.Opened.TheVariants.{Done, Refused}
 use Rattle.exam_rules.proofs.Directory.{block_within}
 use Rattle.exam_rules.proofs.Opens.{refused-tells, done-tells, entries-many, trails-ends, body-long}
 use Rattle.exam_rules.proofs.Parts.{entries_are, many_is, index-at_most, start_is, rules_are, part_of_first, entry-there}

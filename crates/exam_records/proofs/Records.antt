@@ -7,8 +7,7 @@ use lib.ListN.{length, take, drop}
 use Rattle.words.specs.Bytes.{Bytes}
 use Rattle.answers.proofs.Checks.{afterwards-new, afterwards-old}
 use Rattle.exam_rules.specs.Numbers.{open_in_number}
-use Rattle.exam_rules.specs.Calls.{Lent, lent, length_kept, Appends}
-use Rattle.exam_rules.specs.declared.Made.{Made}
+use Rattle.exam_rules.specs.Calls.{Lent, lent, length_kept, Appends, Made}
 use Rattle.exam_rules.specs.declared.Record.{Record}
 use Rattle.exam_rules.proofs.Kept.{more-opens}
 use Rattle.exam_rules.proofs.Filling.{record_outside, append_to_record}

@@ -2,9 +2,8 @@
 use Rattle.std.specs.Prelude.{◌≡◌, ℕ, ◌+◌, ◌<◌, List}
 use Rattle.answers.specs.Answers.{afterwards}
 use Rattle.exam_rules.specs.Numbers.{open_in_number}
-use Rattle.exam_rules.specs.Calls.{Lent, record_appended, filled}
+use Rattle.exam_rules.specs.Calls.{Lent, record_appended, filled, Made}
 use Rattle.exam_rules.specs.declared.Record.{Record}
-use Rattle.exam_rules.specs.declared.Made.{Made}
 use Rattle.exam_records.specs.declared.Progress.{Progress}
 
 -- a record was appended to a file of l bytes that opens, or refused; where it was appended, the file that is left opens

@@ -17,11 +17,9 @@ use Rattle.block_rules.proofs.Round.{written-block}
 use Rattle.exam_rules.specs.File.{Entry, entry, File, file_length, file_bytes, replaced}
 use Rattle.exam_rules.specs.Reading.{file_in, index_of, entry_of}
 use Rattle.exam_rules.specs.Numbers.{slot_number, find_number, store_number, replace_number}
-use Rattle.exam_rules.specs.Calls.{opened, opened_number, replaces_number, Replaces}
+use Rattle.exam_rules.specs.Calls.{opened, opened_number, replaces_number, Replaces, Opened, Done, Refused}
 use Rattle.exam_rules.specs.Inside.{Standing}
 use Rattle.exam_rules.specs.declared.Trailer.{Trailer}
-use Rattle.exam_rules.specs.declared.Opened.{Opened}
-use Rattle.exam_rules.specs.declared.Opened.TheVariants.{Done, Refused}
 use Rattle.exam_rules.proofs.Opens.{refused-tells, done-tells, standing}
 use Rattle.exam_rules.proofs.Parts.{no_default, tells-t, t-small}
 use Rattle.exam_rules.proofs.Changes.{change_refused, change_done}

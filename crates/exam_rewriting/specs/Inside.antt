@@ -4,10 +4,9 @@ use Rattle.answers.specs.Answers.{over}
 use Rattle.exam_rules.specs.File.{entry, entry_bytes, directory_bytes, File, file_length, file_bytes, moved, replaced}
 use Rattle.exam_rules.specs.Reading.{entry_at, entries_at, file_in}
 use Rattle.exam_rules.specs.Numbers.{most_bytes}
-use Rattle.exam_rules.specs.Calls.{opened}
+use Rattle.exam_rules.specs.Calls.{opened, Done}
 use Rattle.exam_rules.specs.Inside.{Entries}
 use Rattle.exam_rules.specs.declared.Trailer.{Trailer}
-use Rattle.exam_rules.specs.declared.Opened.TheVariants.{Done}
 use Rattle.exam_opening.specs.Inside.{PartOf}
 use Rattle.exam_opening.specs.declared.Part.{Part}
 

@@ -14,16 +14,14 @@ use Rattle.answers.proofs.Checks.{unless-passes, unless_holds, none_fails, fails
 use Rattle.block_rules.specs.Block.{block, count, worst}
 use Rattle.block_rules.specs.Numbers.{block_number}
 use Rattle.block_rules.specs.Inside.{Packable}
-use Rattle.block_rules.specs.declared.Unpacked.{Unpacked}
+use Rattle.block_rules.specs.Calls.{Unpacked}
 use Rattle.block_rules.proofs.Tables.{sized-power}
 use Rattle.block_rules.proofs.Accept.{where_number}
 use Rattle.exam_rules.specs.File.{Entry, entry, File, mark}
 use Rattle.exam_rules.specs.Reading.{mark_in, edition_in, t_in, exam_in, distance_in, entries_in, length_in, file_in, index_of, entry_of}
 use Rattle.exam_rules.specs.Numbers.{most_bytes, joins, entries_number, directory_number, open_in_number, slot_number, find_number, block_in, file_tables_number, found_number, fetch_number, create_number, next_slot, store_number, append_number, record_number, replace_number, salvage_number}
-use Rattle.exam_rules.specs.Calls.{trailer_of, opened, opened_number, fetches_number, Fetches, appends_number, words_of, filled}
+use Rattle.exam_rules.specs.Calls.{trailer_of, opened, opened_number, fetches_number, Fetches, appends_number, words_of, filled, Filled, Done}
 use Rattle.exam_rules.specs.declared.Record.{Record}
-use Rattle.exam_rules.specs.declared.Filled.{Filled}
-use Rattle.exam_rules.specs.declared.Opened.TheVariants.{Done}
 use Rattle.exam_rules.proofs.Directory.{heads, heads_keep, joins_equal, equal_joins, edition-is, edition-one}
 use Rattle.exam_rules.proofs.Opens.{opens_in, opens_in_keep, t_in_lem}
 

@@ -12,9 +12,8 @@ use Rattle.block_rules.proofs.Answered.{block_one_of}
 use Rattle.exam_rules.specs.File.{Entry, File}
 use Rattle.exam_rules.specs.Reading.{file_in}
 use Rattle.exam_rules.specs.Numbers.{entries_number, directory_number, fields_number, trailer_number, open_number, open_in_number, slot_number, find_number, block_in, file_tables_number, found_number, fetch_number, create_number, store_number, append_number, record_number, replace_number, salvage_number}
-use Rattle.exam_rules.specs.Calls.{Lent, appends_number, AppendsAll}
+use Rattle.exam_rules.specs.Calls.{Lent, appends_number, AppendsAll, Filled}
 use Rattle.exam_rules.specs.declared.Record.{Record}
-use Rattle.exam_rules.specs.declared.Filled.{Filled}
 use Rattle.exam_rules.proofs.Chain.{Goes, done, stopped, went, all_fills, all_unopened}
 
 entries_one_of : (test : ℕ → ℕ → Bool) (lowest from : ℕ) (es : List Entry) (to : ℕ) → Mem (entries_number test lowest from es to) (0 ∷ 9 ∷ [])

@@ -12,10 +12,8 @@ use borrow.Author.Tests.{eqb-true, eqb-false, eq-eqb, ne_eqb}
 use Rattle.words.proofs.Tests.{either}
 use Rattle.answers.proofs.Checks.{afterwards-new, afterwards-old}
 use Rattle.exam_rules.specs.Numbers.{open_in_number}
-use Rattle.exam_rules.specs.Calls.{Lent, lent, record_appends_number, record_appended, length_kept, filled, each_appended, AppendsAll}
-use Rattle.exam_rules.specs.declared.Made.{Made}
+use Rattle.exam_rules.specs.Calls.{Lent, lent, record_appends_number, record_appended, length_kept, filled, each_appended, AppendsAll, Made, Filled}
 use Rattle.exam_rules.specs.declared.Record.{Record}
-use Rattle.exam_rules.specs.declared.Filled.{Filled}
 use Rattle.exam_rules.proofs.Filling.{record_numbered, record_refused, each_goes_on, each_stops, each_none, all-opened, all-refused, appends-all}
 
 -- ---- as they go

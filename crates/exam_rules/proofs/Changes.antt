@@ -11,8 +11,7 @@ use Rattle.words.proofs.Tests.{either}
 use Rattle.answers.specs.Answers.{over}
 use Rattle.answers.proofs.Checks.{afterwards-new, afterwards-old}
 use Rattle.exam_rules.specs.File.{File, file_length, file_bytes, directory_bytes, trailer_bytes}
-use Rattle.exam_rules.specs.Calls.{made, Changes, appends_number, Appends}
-use Rattle.exam_rules.specs.declared.Made.{Made}
+use Rattle.exam_rules.specs.Calls.{made, Changes, appends_number, Appends, Made}
 use Rattle.exam_rules.proofs.Lengths.{length-file}
 
 pub change_refused : (k n : ℕ) (f : File) (b : List ℕ) → n ≡ k → (n ≡ 0 → ⊥) → Changes k f b (record { number = n; length = 0 }) b

@@ -12,8 +12,7 @@ use Rattle.block_rules.specs.Block.{block}
 use Rattle.exam_rules.specs.File.{entry, File, file_bytes, replaced}
 use Rattle.exam_rules.specs.Reading.{file_in, index_of, entry_of}
 use Rattle.exam_rules.specs.Numbers.{directory_number, open_in_number, slot_number, find_number, block_in}
-use Rattle.exam_rules.specs.Calls.{made, replaces_number, Replaces}
-use Rattle.exam_rules.specs.declared.Made.{Made}
+use Rattle.exam_rules.specs.Calls.{made, replaces_number, Replaces, Made}
 use Rattle.exam_rules.proofs.Opens.{OpensIn, opens_in, parts-long}
 use Rattle.exam_rules.proofs.Lengths.{length-file}
 use Rattle.exam_rules.proofs.Changes.{changes_number}

@@ -13,10 +13,8 @@ use Rattle.answers.specs.Answers.{afterwards}
 use Rattle.answers.proofs.Checks.{unless-passes, fails_later, last_decides, stops, afterwards-new, afterwards-old}
 use Rattle.exam_rules.specs.Reading.{file_in}
 use Rattle.exam_rules.specs.Numbers.{open_in_number, append_number_to, record_number}
-use Rattle.exam_rules.specs.Calls.{made, Lent, lent, appends_number, Appends, words_of, record_appends_number, record_appended, filled, each_appended, all_appended, AppendsAll}
-use Rattle.exam_rules.specs.declared.Made.{Made}
+use Rattle.exam_rules.specs.Calls.{made, Lent, lent, appends_number, Appends, words_of, record_appends_number, record_appended, filled, each_appended, all_appended, AppendsAll, Made, Filled}
 use Rattle.exam_rules.specs.declared.Record.{Record}
-use Rattle.exam_rules.specs.declared.Filled.{Filled}
 
 -- ---- an answer and what is lent, part by part
 

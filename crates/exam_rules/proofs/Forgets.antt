@@ -9,8 +9,7 @@ use borrow.Author.Tests.{eqb-true, eqb-false}
 use Rattle.words.proofs.Tests.{either}
 use Rattle.answers.proofs.Checks.{afterwards-new}
 use Rattle.exam_rules.specs.Numbers.{open_in_number}
-use Rattle.exam_rules.specs.Calls.{Lent, lent, record_appends_number, record_appended, each_appended, all_appended}
-use Rattle.exam_rules.specs.declared.Made.{Made}
+use Rattle.exam_rules.specs.Calls.{Lent, lent, record_appends_number, record_appended, each_appended, all_appended, Made}
 use Rattle.exam_rules.specs.declared.Record.{Record}
 use Rattle.exam_rules.proofs.Filling.{record_numbered, record_refused, each_goes_on, each_stops, each_none, all-opened, all-refused}
 

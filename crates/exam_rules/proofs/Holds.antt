@@ -13,8 +13,7 @@ use Rattle.block_rules.proofs.Lengths.{length-block, block-at_most}
 use Rattle.exam_rules.specs.File.{entry, File, file_length, file_bytes, empty, appended, replaced}
 use Rattle.exam_rules.specs.Reading.{file_in, index_of, entry_of}
 use Rattle.exam_rules.specs.Numbers.{most_bytes, open_in_number, next_slot}
-use Rattle.exam_rules.specs.Calls.{made, Changes, Appends, Replaces}
-use Rattle.exam_rules.specs.declared.Made.{Made}
+use Rattle.exam_rules.specs.Calls.{made, Changes, Appends, Replaces, Made}
 use Rattle.exam_rules.proofs.Directory.{edition-one, directory-empty, directory-more}
 use Rattle.exam_rules.proofs.Opens.{parts-long, opens_in}
 use Rattle.exam_rules.proofs.Lengths.{length-file}

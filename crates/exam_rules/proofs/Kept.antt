@@ -15,8 +15,7 @@ use Rattle.block_rules.specs.Block.{block}
 use Rattle.exam_rules.specs.File.{Entry, entry, File, block_of, appended}
 use Rattle.exam_rules.specs.Reading.{trailer_at, directory_at, entries_in, entry_at, entries_at, file_in, index_of, entry_of}
 use Rattle.exam_rules.specs.Numbers.{directory_number, open_in_number, find_number, block_in}
-use Rattle.exam_rules.specs.Calls.{Appends}
-use Rattle.exam_rules.specs.declared.Made.{Made}
+use Rattle.exam_rules.specs.Calls.{Appends, Made}
 use Rattle.exam_rules.proofs.Directory.{block_within, block-long, index_of_entry}
 use Rattle.exam_rules.proofs.Opens.{Opens, OpensIn, opens_in, trails-ends, body-long, entries-many, parts-long}
 use Rattle.exam_rules.proofs.Parts.{part_of_first}

@@ -19,10 +19,9 @@ use Rattle.block_rules.proofs.Round.{chosen-count, chosen-whole, chosen-words}
 use Rattle.exam_rules.specs.File.{Entry, entry, file_bytes, moved, resized, replaced}
 use Rattle.exam_rules.specs.Reading.{index_of, entry_of}
 use Rattle.exam_rules.specs.Numbers.{directory_number}
-use Rattle.exam_rules.specs.Calls.{Replaces}
+use Rattle.exam_rules.specs.Calls.{Replaces, Made}
 use Rattle.exam_rules.specs.Pieces.{Piece, blocks_of, entries_of, file_of_pieces}
 use Rattle.exam_rules.specs.Maps.{Map, piece_of, file_of, piece_by, file_by, changed, renumbered_from}
-use Rattle.exam_rules.specs.declared.Made.{Made}
 use Rattle.exam_rules.proofs.Lengths.{length-file}
 use Rattle.exam_rules.proofs.Accept.{find_tells}
 use Rattle.exam_rules.proofs.Back.{Good}

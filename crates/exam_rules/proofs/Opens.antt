@@ -14,10 +14,9 @@ use Rattle.answers.proofs.Checks.{unless_holds, fails_later, none_fails, last_de
 use Rattle.exam_rules.specs.File.{mark, file_length}
 use Rattle.exam_rules.specs.Reading.{mark_in, edition_in, t_in, exam_in, distance_in, entries_in, length_in, directory_at, entries_at, file_in}
 use Rattle.exam_rules.specs.Numbers.{most_bytes, edition_known, fields_number, trailer_number, joins, entries_number, directory_number, open_number, open_in_number}
-use Rattle.exam_rules.specs.Calls.{trailer_of, opened}
+use Rattle.exam_rules.specs.Calls.{trailer_of, opened, Done, Refused}
 use Rattle.exam_rules.specs.Inside.{Standing}
 use Rattle.exam_rules.specs.declared.Trailer.{Trailer}
-use Rattle.exam_rules.specs.declared.Opened.TheVariants.{Done, Refused}
 use Rattle.exam_rules.proofs.Directory.{length-entries}
 
 -- ---- the trailer

@@ -11,15 +11,13 @@ use Rattle.answers.specs.Answers.{over}
 use Rattle.answers.proofs.Checks.{afterwards-new}
 use Rattle.block_rules.specs.Block.{block, count, words_in}
 use Rattle.block_rules.specs.Numbers.{block_number}
-use Rattle.block_rules.specs.declared.Unpacked.{Unpacked}
+use Rattle.block_rules.specs.Calls.{Unpacked}
 use Rattle.block_rules.proofs.Accept.{unpacked_of, where_all}
 use Rattle.exam_rules.specs.File.{Entry, entry, File, block_of, appended}
 use Rattle.exam_rules.specs.Reading.{file_in, index_of, entry_of}
 use Rattle.exam_rules.specs.Numbers.{find_number, block_in}
-use Rattle.exam_rules.specs.Calls.{trailer_of, opened, opened_t, opened_entries, Finds, Fetches, Creates, Appends}
+use Rattle.exam_rules.specs.Calls.{trailer_of, opened, opened_t, opened_entries, Finds, Fetches, Creates, Appends, Made, Done}
 use Rattle.exam_rules.specs.Pieces.{Piece, blocks_of, entries_of, file_of_pieces}
-use Rattle.exam_rules.specs.declared.Made.{Made}
-use Rattle.exam_rules.specs.declared.Opened.TheVariants.{Done}
 use Rattle.exam_rules.proofs.Directory.{index_of_entry}
 use Rattle.exam_rules.proofs.Changes.{changes_number}
 use Rattle.exam_rules.proofs.Accept.{find_passes, find_takes, takes_fetch, create_takes, opened-done, fetches_number_lem}

@@ -20,8 +20,7 @@ use Rattle.exam_rules.specs.File.{Entry, entry, directory_bytes, trailer_bytes, 
 use Rattle.exam_rules.specs.Reading.{directory_at, entries_in, file_in, entry_of}
 use Rattle.exam_rules.specs.Numbers.{joins, entries_number, directory_number, open_in_number, find_number, block_in}
 use Rattle.exam_rules.specs.Pieces.{Piece, blocks_of, entries_of, file_of_pieces}
-use Rattle.exam_rules.specs.Calls.{located, Salvages}
-use Rattle.exam_rules.specs.declared.Salvaged.{Salvaged}
+use Rattle.exam_rules.specs.Calls.{located, Salvages, Salvaged}
 use Rattle.exam_rules.specs.Maps.{Map, piece_of, file_of, renumbered_from}
 use Rattle.exam_rules.specs.Salvage.{block_stands, whole_blocks, numbered, salvaged_file}
 use Rattle.exam_rules.proofs.Directory.{heads, joins_equal, joins_forward, ends-before}

@@ -19,10 +19,9 @@ use Rattle.block_rules.proofs.Accept.{whole}
 use Rattle.exam_rules.specs.File.{Entry, entry, directory_bytes, File, file_length, file_bytes, empty}
 use Rattle.exam_rules.specs.Reading.{file_in, entry_of}
 use Rattle.exam_rules.specs.Numbers.{most_bytes, find_number, block_in}
-use Rattle.exam_rules.specs.Calls.{made, Changes, salvaged, salvages_number, Salvages}
+use Rattle.exam_rules.specs.Calls.{made, Changes, salvaged, salvages_number, Salvages, Salvaged}
 use Rattle.exam_rules.specs.Pieces.{Piece, blocks_of, entries_of, file_of_pieces}
 use Rattle.exam_rules.specs.Salvage.{block_stands, whole_blocks, numbered, salvaged_file}
-use Rattle.exam_rules.specs.declared.Salvaged.{Salvaged}
 use Rattle.exam_rules.proofs.Directory.{edition-one}
 use Rattle.exam_rules.proofs.Accept.{Follows, follows-directory, find_takes, salvage_takes}
 use Rattle.exam_rules.proofs.Accept as Accept

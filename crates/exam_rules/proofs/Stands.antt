@@ -9,9 +9,8 @@ use Rattle.words.specs.Bytes.{Bytes}
 use Rattle.words.proofs.Bytes.{bytes_take}
 use Rattle.exam_rules.specs.File.{directory_bytes}
 use Rattle.exam_rules.specs.Reading.{file_in, directory_at, entries_in}
-use Rattle.exam_rules.specs.Calls.{opened}
+use Rattle.exam_rules.specs.Calls.{opened, Done}
 use Rattle.exam_rules.specs.Inside.{Standing}
-use Rattle.exam_rules.specs.declared.Opened.TheVariants.{Done}
 use Rattle.exam_rules.specs.declared.Trailer.{Trailer}
 use Rattle.exam_rules.proofs.Opens.{OpensIn, opens_in, standing, done-tells, trails-ends}
 use Rattle.exam_rules.proofs.Parts.{start_is, many_is, part_of_first}

@@ -18,8 +18,7 @@ use Rattle.block_rules.proofs.Lengths.{block-at_most}
 use Rattle.exam_rules.specs.File.{Entry, entry, File, file_bytes, appended}
 use Rattle.exam_rules.specs.Reading.{file_in, entry_of}
 use Rattle.exam_rules.specs.Numbers.{open_in_number, find_number, block_in, next_slot, record_number}
-use Rattle.exam_rules.specs.Calls.{Lent, appends_number, Appends, words_of, record_appends_number, record_appended, filled}
-use Rattle.exam_rules.specs.declared.Made.{Made}
+use Rattle.exam_rules.specs.Calls.{Lent, appends_number, Appends, words_of, record_appends_number, record_appended, filled, Made}
 use Rattle.exam_rules.specs.declared.Record.{Record}
 use Rattle.exam_rules.proofs.Opens.{opens_in, parts-long}
 use Rattle.exam_rules.proofs.Lengths.{length-file}

@@ -1,28 +1,35 @@
 -- What each call on a file answers, and what it leaves in everything lent to it, refused or not.
-use Rattle.std.specs.Prelude.{◌≡◌, ℕ, ◌+◌, ◌-◌, List, [], ◌∷◌, cond, eqb, length, replicate, take, drop}
+use Rattle.std.specs.Prelude.{◌≡◌, ℕ, ◌+◌, ◌-◌, List, [], ◌∷◌, cond, eqb, length, replicate, take, drop, Option, None, Some, Result, Ok, Err}
 use Rattle.answers.specs.Answers.{first_failure, afterwards, over}
+use Rattle.answers.specs.Refusals.{refusal_number, number_told, value_told}
+use Rattle.answers.specs.declared.Refusal.{Refusal}
 use Rattle.block_rules.specs.Predictors.{Memory, cleared, after}
 use Rattle.block_rules.specs.Block.{block}
-use Rattle.block_rules.specs.Calls.{UnpacksWhere}
-use Rattle.block_rules.specs.declared.Unpacked.{Unpacked}
+use Rattle.block_rules.specs.Calls.{UnpacksWhere, Unpacked}
 use Rattle.exam_rules.specs.File.{File, file_length, file_bytes, empty, appended, replaced}
 use Rattle.exam_rules.specs.Reading.{file_in, entry_of}
 use Rattle.exam_rules.specs.Numbers.{open_in_number, find_number, fetch_number, block_in, create_number, append_number_to, record_number_to, replace_number, salvage_number}
 use Rattle.exam_rules.specs.Salvage.{salvaged_file}
-use Rattle.exam_rules.specs.declared.Located.{Located}
-use Rattle.exam_rules.specs.declared.Made.{Made}
 use Rattle.exam_rules.specs.declared.Record.{Record}
-use Rattle.exam_rules.specs.declared.Filled.{Filled}
-use Rattle.exam_rules.specs.declared.Salvaged.{Salvaged}
 use Rattle.exam_rules.specs.declared.Trailer.{Trailer}
-use Rattle.exam_rules.specs.declared.Opened.{Opened}
-use Rattle.exam_rules.specs.declared.Opened.TheVariants.{Done, Refused}
+use Rattle.exam_rules.specs.declared.BlockPlace.{BlockPlace}
+use Rattle.exam_rules.specs.declared.Progress.{Progress}
+use Rattle.exam_rules.specs.declared.SalvagedFile.{SalvagedFile}
 
 -- ---- open
 
 -- what opening tells of a file: edition, t, entries, the directory's start
 abbrev pub trailer_of : File → Trailer
 trailer_of f = record { edition = f.edition; t = f.t; entries = length f.entries; start = length f.body }
+
+-- what an opening tells: the trailer, or the number of the refusal
+pub data Opened : Type 0 where
+  Done : Trailer → Opened
+  Refused : ℕ → Opened
+
+abbrev pub opened_told : Result Trailer Refusal → Opened
+opened_told (Ok tr) = Done tr
+opened_told (Err r) = Refused (refusal_number r)
 
 -- open answers the trailer or the number
 unfoldable pub opened : List ℕ → ℕ → ℕ → Opened
@@ -54,6 +61,15 @@ pub record Finds (b : List ℕ) (l exam slot : ℕ) (part : List ℕ) (number : 
 
 -- ---- locate
 
+-- what locate tells: the number, and where the block stands in the file and its size, or 0 and 0
+pub record Located : Type 0 where
+  pub number : ℕ
+  pub offset : ℕ
+  pub size : ℕ
+
+abbrev pub located_told : Result BlockPlace Refusal → Located
+located_told r = record { number = number_told r; offset = value_told (λ (p : BlockPlace). p.offset) r; size = value_told (λ (p : BlockPlace). p.size) r }
+
 -- locate(file, length, exam, slot): find's number, and the block's offset in the file and its length, both 0 where it is refused
 unfoldable pub located : List ℕ → ℕ → ℕ → ℕ → Located
 located b l exam slot =
@@ -74,6 +90,14 @@ module _ (b : List ℕ) (l exam slot : ℕ) (fcm dfcm words : List ℕ) where
     pub unpacks : UnpacksWhere fetches_number (file_in (take l b)).t (block_in b l slot) fcm dfcm words r fcm' dfcm' words'
 
 -- ---- calls that make or change a file
+
+-- what such a call tells: the number, and the file's new length or 0
+pub record Made : Type 0 where
+  pub number : ℕ
+  pub length : ℕ
+
+abbrev pub made_told : Result ℕ Refusal → Made
+made_told r = record { number = number_told r; length = value_told (λ n. n) r }
 
 -- such a call answers the number and the file's new length
 unfoldable pub made : ℕ → File → Made
@@ -139,6 +163,20 @@ module _ (b : List ℕ) (l exam slot : ℕ) (words fcm dfcm bench : List ℕ) wh
     pub bench_left : bench' ≡ afterwards replaces_number (over replaces_block bench) bench
 
 -- ---- append_all
+
+-- what append_all tells: the number, how many maps went in, and the file's length then, or 0
+pub record Filled : Type 0 where
+  pub number : ℕ
+  pub appended : ℕ
+  pub length : ℕ
+
+-- the number of what stopped it: 0 where nothing did
+abbrev pub stop_number : Option Refusal → ℕ
+stop_number None = 0
+stop_number (Some r) = refusal_number r
+
+abbrev pub filled_told : Progress → Filled
+filled_told f = record { number = stop_number f.refused; appended = f.appended; length = f.length }
 
 -- what append_all is lent to be changed: the buffer with the file, both tables, the bench buffer
 pub record Lent : Type 0 where
@@ -212,6 +250,25 @@ module _ (b : List ℕ) (l exam : ℕ) (records : List Record) (words fcm dfcm b
     pub bench_left : bench' ≡ appends_all.1.bench
 
 -- ---- salvage
+
+-- what salvage tells: the number; the new file's length; how many blocks it kept and how many of the old bytes it left over; and 1, since the slots are
+-- renumbered. All but the number are 0 at a refusal
+pub record Salvaged : Type 0 where
+  pub number : ℕ
+  pub length : ℕ
+  pub kept : ℕ
+  pub left_over : ℕ
+  pub renumbered : ℕ
+
+abbrev pub salvaged_told : Result SalvagedFile Refusal → Salvaged
+salvaged_told r =
+    record {
+      number = number_told r;
+      length = value_told (λ (s : SalvagedFile). s.length) r;
+      kept = value_told (λ (s : SalvagedFile). s.kept) r;
+      left_over = value_told (λ (s : SalvagedFile). s.left_over) r;
+      renumbered = value_told (λ (s : SalvagedFile). cond s.renumbered 1 0) r;
+    }
 
 -- salvage answers the number and the new length; how many blocks were kept; how many of the old bytes were left over; and 1, since the slots are renumbered. Where it
 -- is refused, all but the number are 0

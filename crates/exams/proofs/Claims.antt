@@ -20,21 +20,15 @@ use Rattle.answers.proofs.Checks.{fails_here, afterwards-new, afterwards-old}
 use Rattle.block_rules.specs.Codes.{Choice, dfcm_chosen, dfcm_chosen_by_bytes, Thrifty}
 use Rattle.block_rules.specs.Block.{block_by, block, count, stated_length}
 use Rattle.block_rules.specs.Numbers.{form_number, block_number}
-use Rattle.block_rules.specs.declared.Unpacked.{Unpacked}
+use Rattle.block_rules.specs.Calls.{Unpacked}
 use Rattle.exam_rules.specs.File.{entry, File, file_length, file_bytes, block_of, empty, appended, replaced}
 use Rattle.exam_rules.specs.Reading.{t_in, exam_in, distance_in, entries_in, length_in, file_in, entry_of}
 use Rattle.exam_rules.specs.Numbers.{open_in_number, find_number, block_in, next_slot}
-use Rattle.exam_rules.specs.Calls.{opened, opened_number, opened_t, opened_entries, opened_start, Finds, located, Fetches, Creates, appends_number, Appends, replaces_number, Replaces, Lent, lent, words_of, filled, AppendsAll, salvaged, salvages_number, Salvages}
+use Rattle.exam_rules.specs.Calls.{opened, opened_number, opened_t, opened_entries, opened_start, Finds, located, Fetches, Creates, appends_number, Appends, replaces_number, Replaces, Lent, lent, words_of, filled, AppendsAll, salvaged, salvages_number, Salvages, Located, Made, Filled, Salvaged, Opened, Done, Refused}
 use Rattle.exam_rules.specs.Pieces.{blocks_of, file_of_pieces}
 use Rattle.exam_rules.specs.Salvage.{block_stands, whole_blocks, numbered, salvaged_file}
 use Rattle.exam_rules.specs.Maps.{Map, piece_of, file_of, piece_by, file_by, changed, renumbered_from}
-use Rattle.exam_rules.specs.declared.Located.{Located}
-use Rattle.exam_rules.specs.declared.Made.{Made}
 use Rattle.exam_rules.specs.declared.Record.{Record}
-use Rattle.exam_rules.specs.declared.Filled.{Filled}
-use Rattle.exam_rules.specs.declared.Salvaged.{Salvaged}
-use Rattle.exam_rules.specs.declared.Opened.{Opened}
-use Rattle.exam_rules.specs.declared.Opened.TheVariants.{Done, Refused}
 use Rattle.block_rules.proofs.Accept.{where_nothing, where_one_answer, where_forgets}
 use Rattle.exam_rules.proofs.Opens.{opens_in, t_in_lem, body-long, entries-many}
 use Rattle.exam_rules.proofs.Changes.{append-stopped, change_one_answer, changes_number, changes_none}

@@ -17,10 +17,8 @@ use Rattle.block_rules.proofs.Accept.{whole}
 use Rattle.exam_rules.specs.File.{File, block_of}
 use Rattle.exam_rules.specs.Reading.{trailer_at, exam_in, t_in, entries_in, directory_at, entry_at, entries_at, file_in}
 use Rattle.exam_rules.specs.Numbers.{trailer_number, open_number, open_in_number}
-use Rattle.exam_rules.specs.Calls.{opened, opened_number}
+use Rattle.exam_rules.specs.Calls.{opened, opened_number, Opened, Done, Refused}
 use Rattle.exam_rules.specs.declared.Trailer.{Trailer}
-use Rattle.exam_rules.specs.declared.Opened.{Opened}
-use Rattle.exam_rules.specs.declared.Opened.TheVariants.{Done, Refused}
 use Rattle.exam_rules.proofs.Directory.{length-entries}
 use Rattle.exam_rules.proofs.Opens.{Trails, trails, trails_keep, t_in_lem, body-long, entries-many, opens, refused-tells, done-tells}
 use Rattle.exam_rules.proofs.Accept.{opened-number}

@@ -5,8 +5,7 @@ use Prim.Native.Nat.{ℕ}
 use lib.ListN.{length}
 use Rattle.answers.proofs.Checks.{afterwards-old, afterwards-new}
 use Rattle.answers.proofs.OneOf.{no_check_one_of, check_one_of}
-use Rattle.block_rules.specs.Calls.{packed}
-use Rattle.block_rules.specs.declared.Packed.{Packed}
+use Rattle.block_rules.specs.Calls.{packed, Packed}
 use Rattle.packer.specs.Program.{packer_number, Answers}
 
 -- Of the answer, both tables and the output, refused or not, the promise admits one value each.

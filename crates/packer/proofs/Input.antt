@@ -9,9 +9,8 @@ use borrow.Author.Tests.{eqb-true, leb-true}
 use Rattle.words.specs.Bytes.{field}
 use Rattle.answers.specs.Answers.{over}
 use Rattle.answers.proofs.Checks.{unless_holds, none_fails, afterwards-old, sets_over, told-within}
-use Rattle.block_rules.specs.Calls.{packed, packs_number, Packs}
+use Rattle.block_rules.specs.Calls.{packed, packs_number, Packs, Packed}
 use Rattle.block_rules.specs.Numbers.{t_of}
-use Rattle.block_rules.specs.declared.Packed.{Packed}
 use Rattle.block_rules.proofs.Tables.{sized-power, t_of_power}
 use Rattle.block_rules.proofs.Accept.{packable-packs}
 use Rattle.packer.specs.Program.{first_words, words_of, packer_number, packer_block, Answers}

@@ -1,7 +1,6 @@
 -- What is written for an answer is what the program writes for its input.
 use Rattle.std.proofs.Common.{◌≡◌, ℕ, List, length, take, sym, ap, ◌∙◌}
-use Rattle.block_rules.specs.Calls.{packed}
-use Rattle.block_rules.specs.declared.Packed.{Packed}
+use Rattle.block_rules.specs.Calls.{packed, Packed}
 use Rattle.streams.specs.Refusal.{output_of, errors_of}
 use Rattle.streams.proofs.Written.{done-output}
 use Rattle.packer.specs.Program.{packer_number, packer_block, Answers}

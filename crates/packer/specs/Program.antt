@@ -4,8 +4,7 @@ use Rattle.words.specs.Bytes.{number}
 use Rattle.answers.specs.Answers.{unless, first_failure, afterwards, over}
 use Rattle.block_rules.specs.Predictors.{Memory, cleared, after}
 use Rattle.block_rules.specs.Block.{block}
-use Rattle.block_rules.specs.Calls.{packed}
-use Rattle.block_rules.specs.declared.Packed.{Packed}
+use Rattle.block_rules.specs.Calls.{packed, Packed}
 
 -- the first n words in bytes: 8 bytes each, low byte first
 abbrev pub first_words : ℕ → List ℕ → List ℕ
