@@ -1,12 +1,13 @@
 -- Reading the input's words one a turn, and what packing them answers.
 use mathlib.Core.Path.{◌≡◌, refl, sym, ap, ◌∙◌}
-use mathlib.Core.List.{List}
-use Prim.Native.Nat.{ℕ, zero, suc, ◌+◌, ◌-◌, ◌*◌, ◌/◌, ◌%◌, ◌≤◌, ◌<◌}
+use mathlib.Core.List.{List, ◌++◌}
+use Prim.Native.Nat.{ℕ, zero, suc, ◌+◌, ◌/◌, ◌%◌, ◌≤◌, ◌<◌}
 use native.Mathlib.Omega.{arith}
-use lib.ListN.{length, set, take, drop}
-use lib.Seq.{sets, drop-drop, take-append_seam}
+use lib.ListN.{length, set, take, drop, length-append}
+use Rattle.std.proofs.lemmas.List.{take_at, drop_at, take_all}
+use lib.Seq.{sets, take-append_seam}
 use borrow.Author.Tests.{eqb-true, leb-true}
-use Rattle.words.specs.Bytes.{field}
+use Rattle.words.specs.Bytes.{number, field}
 use Rattle.answers.specs.Answers.{over}
 use Rattle.answers.proofs.Checks.{unless_holds, none_fails, afterwards-old, sets_over, told-within}
 use Rattle.block_rules.specs.Calls.{packed, packs_number, Packs, Packed}
@@ -22,19 +23,20 @@ pub length-words : (n : ℕ) (bs : List ℕ) → length (first_words n bs) ≡ n
 length-words zero bs = refl
 length-words (suc n) bs = ap suc (length-words n (drop 8 bs))
 
-pub words_more : (input words : List ℕ) (i n : ℕ) (whole : List ℕ) → i < n → sets words i (first_words (n - i) (drop (8 * i) input)) ≡ whole
-    → sets (set words i (field 8 (8 * i) input)) (i + 1) (first_words (n - (i + 1)) (drop (8 * (i + 1)) input)) ≡ whole
-words_more input words i n whole h p =
-    let e : n - i ≡ suc (n - suc i) = omega arith in
+-- the word in the next eight bytes is put, and those in what is left are still to be put
+pub words_next : (bytes left words : List ℕ) (i v : ℕ) (whole : List ℕ) → length bytes ≡ 8 → v ≡ field 8 0 bytes
+    → sets words i (first_words (length (bytes ++ left) / 8) (bytes ++ left)) ≡ whole
+    → sets (set words i v) (i + 1) (first_words (length left / 8) left) ≡ whole
+words_next bytes left words i v whole eight e p =
+    let n : length (bytes ++ left) / 8 ≡ suc (length left / 8) = omega (arith, length-append bytes left, eight) in
+    let w : number (take 8 (bytes ++ left)) ≡ v = ap number (take_at bytes left 8 eight ∙ sym (take_all 8 bytes (omega (arith, eight)))) ∙ sym e in
     let f : i + 1 ≡ suc i = omega arith in
-    let d : 8 * (i + 1) ≡ 8 * i + 8 = omega arith in
-    let g : drop (8 * (i + 1)) input ≡ drop 8 (drop (8 * i) input) = ap (λ (k : ℕ). drop k input) d ∙ sym (drop-drop 8 (8 * i) input) in
-    rw (g, f) (rw e at p)
+    rw f (rw (n, w, drop_at bytes left 8 eight) at p)
 
-pub words-all : (input words : List ℕ) (i n : ℕ) (whole : List ℕ) → n ≤ i → sets words i (first_words (n - i) (drop (8 * i) input)) ≡ whole → words ≡ whole
-words-all input words i n whole h p =
-    let e : n - i ≡ 0 = omega arith in
-    rw e at p
+pub words_end : (left words : List ℕ) (i : ℕ) (whole : List ℕ) → length left < 8 → sets words i (first_words (length left / 8) left) ≡ whole → words ≡ whole
+words_end left words i whole h p =
+    let n : length left / 8 ≡ 0 = omega arith in
+    rw n at p
 
 -- ---- what the input allows
 

@@ -22,12 +22,10 @@ fn answer_input<O: Write, E: Write>(input: &[u8], output: &mut O, errors: &mut E
     let mut dfcm = [0; 1024];
     // Room for the worst block of 4,096 words.
     let mut out = [0u8; 34824];
-    let answer = packing::pack_input(input, &mut fcm, &mut dfcm, &mut out);
-    if answer.number != 0 {
-        return streams::say_refused(errors, answer.number);
+    match packing::pack_input(input, &mut fcm, &mut dfcm, &mut out) {
+        Ok(length) => output.write_all(&out[..length]),
+        Err(refusal) => streams::say_refused(errors, refusal.into()),
     }
-    let length = answer.length;
-    output.write_all(&out[..length])
 }
 
 // Packs all that there is to read, and writes the answer to it and nothing else. Where the input cannot
@@ -47,11 +45,7 @@ fn run<R: Read, O: Write, E: Write>(
 {
     // One byte more than it takes: that byte is the refusal, and nothing beyond it is read.
     let mut buffer = [0u8; 32769];
-    let input = streams::read_input(reader, &mut buffer);
-    if input.failed {
-        return Err(Failure::Unread);
-    }
-    let count = input.count;
+    let count = streams::read_input(reader, &mut buffer)?;
     match answer_input(&buffer[..count], output, errors) {
         Ok(()) => Ok(()),
         Err(_) => Err(Failure::Unwritten),

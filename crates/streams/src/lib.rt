@@ -2,7 +2,7 @@
 // the two are told apart.
 #![tactic(auto)]
 
-ghost use Rattle.std.specs.Prelude.{◌≡◌, true, false, ◌<◌, ◌≤◌, take, length, OnOk, Some};
+ghost use Rattle.std.specs.Prelude.{◌≡◌, ◌<◌, ◌≤◌, take, length, OnOk, IfOk, IfErr, Some};
 ghost use Rattle.std.specs.Io.KnownBytes.{Appends, Consumes, IsAtEnd};
 ghost use Rattle.streams.specs.Failures.{failure_text};
 ghost use Rattle.streams.specs.Refusal.{refusal};
@@ -12,7 +12,7 @@ use std::io::{Read, Write};
 use std::{fmt, io};
 
 // What ends a program with no answer: a read or a write that failed.
-#[derive(Clone, Copy, Debug)]
+#[derive(Clone, Copy, Debug, PartialEq, Eq)]
 pub enum Failure {
     Unread,
     Unwritten,
@@ -31,67 +31,27 @@ impl fmt::Display for Failure {
 
 impl Error for Failure {}
 
-// What reading answers: whether a read failed, and how many bytes came, 0 where one failed.
-#[derive(Clone, Copy)]
-pub struct Input {
-    pub failed: bool,
-    pub count: usize,
-}
-
-// Reads once into a part of a buffer. No byte and no failure is the end of the input.
-fn read_once<R: Read>(reader: &mut R, part: &mut [u8]) -> Input
-    ensures within { result.count ≤ length part.new }
-    ensures part { result.count ≡ length (take result.count part.new) }
-    ensures none { result.failed ≡ true → result.count ≡ 0 }
-    ensures bytes { result.failed ≡ false →
-        Consumes (R.remaining reader.old) (R.remaining reader.new) (take result.count part.new) }
-    ensures end { result.failed ≡ false → result.count ≡ 0 → 0 < length part.new →
-        IsAtEnd (R.remaining reader.new) }
-{
-    match reader.read(part) {
-        Ok(count) => Input {
-            failed: false,
-            count,
-        },
-        Err(_) => Input {
-            failed: true,
-            count: 0,
-        },
-    }
-}
-
-// Reads into the start of a buffer until the input ends, the buffer is full or a read fails. Where it
-// answers that a read failed it counts nothing: no part may be taken for the whole.
-pub fn read_input<R: Read>(reader: &mut R, buffer: &mut [u8]) -> Input
-    ensures none { result.failed ≡ true → result.count ≡ 0 }
-    ensures within { result.count ≤ length buffer.new }
-    ensures part { result.count ≡ length (take result.count buffer.new) }
-    ensures bytes { result.failed ≡ false →
-        Consumes (R.remaining reader.old) (R.remaining reader.new) (take result.count buffer.new) }
-    ensures end { result.failed ≡ false → result.count < length buffer.new →
-        IsAtEnd (R.remaining reader.new) }
+// Reads into the start of a buffer until the input ends or the buffer is full. Answers how many bytes
+// came. Where a read fails nothing is counted: no part may be taken for the whole.
+pub fn read_input<R: Read>(reader: &mut R, buffer: &mut [u8]) -> Result<usize, Failure>
+    ensures within { IfOk result (λ count. count ≤ length buffer.new) }
+    ensures bytes { IfOk result (λ count.
+        Consumes (R.remaining reader.old) (R.remaining reader.new) (take count buffer.new)) }
+    ensures end { IfOk result (λ count. count < length buffer.new →
+        IsAtEnd (R.remaining reader.new)) }
+    ensures failed { IfErr result (λ failure. failure ≡ Failure.Unread) }
 {
     let mut count: usize = 0;
     while count < buffer.len() {
-        let got = read_once(reader, &mut buffer[count..]);
-        if got.failed {
-            return Input {
-                failed: true,
-                count: 0,
-            };
+        let Ok(got) = reader.read(&mut buffer[count..]) else {
+            return Err(Failure::Unread);
+        };
+        if got == 0 {
+            return Ok(count);
         }
-        if got.count == 0 {
-            return Input {
-                failed: false,
-                count,
-            };
-        }
-        count += got.count;
+        count += got;
     }
-    Input {
-        failed: false,
-        count,
-    }
+    Ok(count)
 }
 
 // Says a refusal's number.
@@ -130,8 +90,7 @@ mod tests {
         let mut reader: &[u8] = b"abcde";
         let mut buffer = [0u8; 8];
         let input = read_input(&mut reader, &mut buffer);
-        assert!(rt; !input.failed);
-        assert_eq!(rt; input.count, 5);
+        assert_eq!(rt; input, Ok(5));
         assert_eq!(rt; &buffer, b"abcde\0\0\0");
     }
 
@@ -140,8 +99,7 @@ mod tests {
         let mut reader: &[u8] = b"abcde";
         let mut buffer = [0u8; 4];
         let input = read_input(&mut reader, &mut buffer);
-        assert!(rt; !input.failed);
-        assert_eq!(rt; input.count, 4);
+        assert_eq!(rt; input, Ok(4));
         assert_eq!(rt; &buffer, b"abcd");
         assert_eq!(rt; reader, b"e".as_slice());
     }
@@ -149,11 +107,11 @@ mod tests {
     #[test]
     fn tells_a_read_that_fails(rt: HostRuntime) {
         let mut buffer = [0u8; 4];
-        for (reads, failed, count) in [(0, true, 0), (3, true, 0), (4, false, 4)] {
+        let unread = Err(Failure::Unread);
+        for (reads, input) in [(0, unread), (3, unread), (4, Ok(4))] {
             let mut reader = Failing { reads };
-            let input = read_input(&mut reader, &mut buffer);
-            assert_eq!(rt; input.failed, failed, "after {reads} reads");
-            assert_eq!(rt; input.count, count, "after {reads} reads");
+            let got = read_input(&mut reader, &mut buffer);
+            assert_eq!(rt; got, input, "after {reads} reads");
         }
     }
 

@@ -1,31 +1,32 @@
 -- What the answer to the input makes the program write.
-use Rattle.std.proofs.Common.{sym, ◌∙◌, subst, length-take-le}
+use Rattle.std.proofs.Common.{sym, refl, ap, ◌∙◌, subst, length-take-le}
 use Rattle.std.proofs.lemmas.Result.{on_ok_weaker}
 use Rattle.std.specs.Io.KnownBytes.{Appends}
 use Rattle.std.proofs.KnownBytes.{Appends-nil}
+use Rattle.answers.proofs.Told.{refuses}
 use Rattle.packer.proofs.Input.{answer_fits}
+use Rattle.streams.specs.Refusal.{refusal}
 use Rattle.streams.proofs.Written.{refused-output, refused-errors, done-errors}
 use Rattle.packer.proofs.Output.{output_is, errors_is, block_is}
 use Rattle.packer.proofs.answer_input.Goals as goal
 
-pub returns-then-answer-ne0-clause-output : goal.returns-then-answer-ne0-clause-output
-returns-then-answer-ne0-clause-output g c =
-    on_ok_weaker c.say_refused.result (λ _. subst (Appends _ _) (sym (output_is c.pack_input-answer.ensures ∙ refused-output c.if-answer-ne0.true _)) (Appends-nil _)) c.say_refused.ensures
-
-pub returns-then-answer-ne0-clause-errors : goal.returns-then-answer-ne0-clause-errors
-returns-then-answer-ne0-clause-errors g c =
-    on_ok_weaker c.say_refused.result (subst (Appends _ _) (sym (errors_is c.pack_input-answer.ensures ∙ refused-errors c.if-answer-ne0.true))) c.say_refused.ensures
-
 pub slice_bounds-out-end : goal.slice_bounds-out-end
-slice_bounds-out-end g c = answer_fits c.pack_input-answer.ensures
+slice_bounds-out-end g c = answer_fits c.in-Ok.ensures
 
 pub slice_bounds-write_all-end : goal.slice_bounds-write_all-end
-slice_bounds-write_all-end g c = sym (length-take-le _ _ (answer_fits c.pack_input-answer.ensures))
+slice_bounds-write_all-end g c = sym (length-take-le _ _ (answer_fits c.in-Ok.ensures))
 
-pub returns-clause-output : goal.returns-clause-output
-returns-clause-output g c =
-    on_ok_weaker c.write_all.result (subst (Appends _ _) (sym (block_is c.pack_input-answer.ensures c.if-answer-ne0.false))) c.write_all.ensures.bytes
+pub returns-in-Ok-clause-output : goal.returns-in-Ok-clause-output
+returns-in-Ok-clause-output g c = on_ok_weaker c.write_all.result (subst (Appends _ _) (sym (block_is c.in-Ok.ensures refl))) c.write_all.ensures.bytes
 
-pub returns-clause-errors : goal.returns-clause-errors
-returns-clause-errors g c =
-    on_ok_weaker c.write_all.result (λ _. subst (Appends _ _) (sym (errors_is c.pack_input-answer.ensures ∙ done-errors c.if-answer-ne0.false)) (Appends-nil _)) c.write_all.ensures.bytes
+pub returns-in-Ok-clause-errors : goal.returns-in-Ok-clause-errors
+returns-in-Ok-clause-errors g c =
+    on_ok_weaker c.write_all.result (λ _. subst (Appends _ _) (sym (errors_is c.in-Ok.ensures ∙ done-errors refl)) (Appends-nil _)) c.write_all.ensures.bytes
+
+pub returns-in-Err-clause-output : goal.returns-in-Err-clause-output
+returns-in-Err-clause-output g c =
+    on_ok_weaker c.say_refused.result (λ _. subst (Appends _ _) (sym (output_is c.in-Err.ensures ∙ refused-output (refuses _) _)) (Appends-nil _)) c.say_refused.ensures
+
+pub returns-in-Err-clause-errors : goal.returns-in-Err-clause-errors
+returns-in-Err-clause-errors g c =
+    on_ok_weaker c.say_refused.result (subst (Appends _ _) (sym (errors_is c.in-Err.ensures ∙ refused-errors (refuses _) ∙ ap refusal (sym c.into.ensures)))) c.say_refused.ensures

@@ -1,8 +1,9 @@
 -- A read puts its bytes behind those that came before, and both were consumed.
-use Rattle.std.proofs.Common.{◌≡◌, refl, ℕ, ◌+◌, ◌≤◌, List, ◌++◌, length, take, ap, sym, ◌∙◌, subst, rules, length-take-le}
+use Rattle.std.proofs.Common.{◌≡◌, ℕ, ◌+◌, ◌≤◌, List, ◌++◌, length, take, ap, sym, ◌∙◌, subst, rules, length-take-le}
 use Rattle.std.proofs.lemmas.List.{places, take-append-le}
 use Rattle.std.proofs.Math.Seq.{take-append-add}
 use Rattle.std.specs.Io.KnownBytes.{Consumes}
+use Rattle.std.proofs.lemmas.Result.{MatchResult-at_ok}
 use Rattle.std.proofs.KnownBytes.{Consumes-trans}
 use borrow.Rule.Slice.PartMut.{put_mid, post_of}
 use Rattle.streams.proofs.read_input.Goals as goal
@@ -17,12 +18,8 @@ take_more a n k xs ys before fits =
 pub loop-count-preserved : goal.loop-count-preserved
 loop-count-preserved g c =
     let before = c.loop-count.invariant in
-    let read = c.read_once-got.ensures in
+    let read = MatchResult-at_ok _ _ _ c.in-Ok.is c.read.ensures.bytes in
     record {
       within = search (rules, places);
-      bytes = subst (Consumes _ _) (sym (take_more _ _ _ _ _ before.within read.within)) (Consumes-trans _ _ _ _ _ before.bytes (read.bytes c.if-got.false));
+      bytes = subst (Consumes _ _) (sym (take_more _ _ _ _ _ before.within (search rules))) (Consumes-trans _ _ _ _ _ before.bytes read.0);
     }
-
--- where a read failed, nothing is counted
-pub returns-then-got-clause-none : goal.returns-then-got-clause-none
-returns-then-got-clause-none g c = λ e. refl

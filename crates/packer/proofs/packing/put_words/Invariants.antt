@@ -1,12 +1,9 @@
-use mathlib.Core.Path.{◌≡◌}
-use Prim.Native.Nat.{◌-◌, ◌*◌, ◌≤◌}
-use lib.ListN.{length, drop}
-use lib.Seq.{sets}
+use Rattle.std.proofs.Common.{◌≡◌, ◌+◌, ◌/◌, length}
+use Rattle.std.proofs.lemmas.List.Edits.{sets}
 use Rattle.packer.specs.Program.{first_words}
 use Rattle.packer.proofs.packing.put_words.Given as goal
 
 abbrev pub invariant-loop-i : goal.invariant-loop-i
-invariant-loop-i l = (l.i ≤ l.n) × (length l.into ≡ length l.initial.into) × (sets l.into l.i (first_words (l.n - l.i) (drop (8 * l.i) l.input)) ≡ sets l.initial.into 0 (first_words l.n l.input))
-
-abbrev pub decreases-loop-i : goal.decreases-loop-i
-decreases-loop-i l = l.n - l.i
+invariant-loop-i l = (l.i-iterator.iter.size ≡ 8) × (length l.into ≡ length l.initial.into)
+    × (l.i-iterator.count + length l.i-iterator.iter.rest.now / 8 ≡ length l.input / 8)
+    × (sets l.into l.i-iterator.count (first_words (length l.i-iterator.iter.rest.now / 8) l.i-iterator.iter.rest.now) ≡ sets l.initial.into 0 (first_words (length l.input / 8) l.input))

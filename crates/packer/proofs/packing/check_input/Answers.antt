@@ -2,7 +2,7 @@ use native.Mathlib.Omega.{arith}
 use borrow.Author.Tests.{le-leb, lt-leb, eq-eqb, ne_eqb}
 use Rattle.answers.proofs.Checks.{all_pass, passes, stops}
 use Rattle.packer.specs.Program.{packer_number}
-use Rattle.packer.proofs.packing.input_number.Goals as goal
+use Rattle.packer.proofs.packing.check_input.Goals as goal
 
 pub returns-then-length-gt32768 : goal.returns-then-length-gt32768
 unfolding packer_number
