@@ -1,8 +1,8 @@
 use mathlib.Core.Path.{sym, ◌∙◌}
 use native.Mathlib.Omega.{arith}
 use borrow.Author.Tests.{lt-ltb, le-ltb, eq-eqb, ne_eqb}
-use Rattle.answers.proofs.Checks.{fails_later, last_decides, passes, stops}
-use Rattle.answers.proofs.Told.{hands_on}
+use Rattle.answers.proofs.Checks.{fails_here, fails_later, last_decides, passes, stops}
+use Rattle.answers.proofs.Told.{refuses, handed_on}
 use Rattle.exam_rules.specs.Numbers.{open_number}
 use Rattle.exam_rules.proofs.Opens.{trails}
 use Rattle.exam_checking.proofs.Fields.{directory_read, entries_here}
@@ -10,7 +10,7 @@ use Rattle.exam_checking.proofs.check_open.Goals as goal
 
 pub returns-in_err-check_trailer : goal.returns-in_err-check_trailer
 unfolding open_number
-returns-in_err-check_trailer c = hands_on _ _ _ _ c.from_residual.ensures.1 c.in_err-check_trailer.ensures
+returns-in_err-check_trailer c = rw (handed_on c.from_residual.ensures.1) (fails_here _ _ _ c.in_err-check_trailer.ensures (refuses _))
 
 pub returns-then-exam-eq0 : goal.returns-then-exam-eq0
 unfolding open_number

@@ -2,14 +2,14 @@ use mathlib.Core.Path.{sym}
 use Prim.Native.Nat.{min}
 use native.Mathlib.Omega.{arith}
 use borrow.Author.Tests.{le-leb, lt-leb}
-use Rattle.answers.proofs.Checks.{all_pass, fails_later, passes, stops}
-use Rattle.answers.proofs.Told.{hands_on}
+use Rattle.answers.proofs.Checks.{all_pass, fails_here, fails_later, passes, stops}
+use Rattle.answers.proofs.Told.{refuses, handed_on}
 use Rattle.exam_rules.specs.Numbers.{store_number}
 use Rattle.exam_checking.proofs.check_store.Goals as goal
 
 pub returns-in_err-check_file_tables : goal.returns-in_err-check_file_tables
 unfolding store_number
-returns-in_err-check_file_tables c = hands_on _ _ _ _ c.from_residual.ensures.1 c.in_err-check_file_tables.ensures
+returns-in_err-check_file_tables c = rw (handed_on c.from_residual.ensures.1) (fails_here _ _ _ c.in_err-check_file_tables.ensures (refuses _))
 
 pub returns-then-count-gt65536 : goal.returns-then-count-gt65536
 unfolding store_number
