@@ -2,16 +2,28 @@
 // else it tells put into lent numbers. include/coil.h declares them.
 #![tactic(auto)]
 
+ghost use Rattle.std.specs.Prelude.{◌≡◌};
+ghost use Rattle.answers.specs.Refusals.{number_told, value_told};
 ghost use Rattle.coil.specs.Calls.{CoilOpens, CoilChecks, CoilPacks, CoilUnpacks, CoilCreates, CoilFinds, CoilFetches, CoilAppends, CoilAppendsAll, CoilReplaces, CoilSalvages};
 
-use exams::Record;
+use answers::{Refusal, number_told};
+use exams::{BlockPlace, Record, SalvagedFile};
+
+// Puts what an answer has into a lent number, 0 where it is a refusal, and answers its number.
+fn tell(answer: Result<usize, Refusal>, value: &mut usize) -> u32
+    ensures number { result ≡ number_told answer }
+    ensures value { value.new ≡ value_told (λ n. n) answer }
+{
+    *value = answer.unwrap_or(0);
+    number_told(&answer)
+}
 
 // Opens the file in the first bytes of a buffer for an exam number, which must be its own.
 #[unsafe(no_mangle)]
 pub extern "C" fn coil_open(file: &[u8], length: usize, exam: u64) -> u32
     ensures { CoilOpens file.now length exam result }
 {
-    exams::opened_number(exams::open(file, length, exam))
+    number_told(&exams::open(file, length, exam))
 }
 
 // Checks a block.
@@ -19,8 +31,7 @@ pub extern "C" fn coil_open(file: &[u8], length: usize, exam: u64) -> u32
 pub extern "C" fn coil_check(block: &[u8]) -> u32
     ensures { CoilChecks block.now result }
 {
-    let answer = blocks::check(block);
-    answer.number
+    number_told(&blocks::check(block))
 }
 
 // Packs words into a block at the start of out.
@@ -34,9 +45,7 @@ pub extern "C" fn coil_pack(
 ) -> u32
     ensures { CoilPacks words.now fcm.old dfcm.old out.old result fcm.new dfcm.new out.new length.new }
 {
-    let answer = blocks::pack(words, fcm, dfcm, out);
-    *length = answer.length;
-    answer.number
+    tell(blocks::pack(words, fcm, dfcm, out), length)
 }
 
 // Unpacks the words of a block to the start of words.
@@ -50,9 +59,7 @@ pub extern "C" fn coil_unpack(
 ) -> u32
     ensures { CoilUnpacks block.now fcm.old dfcm.old words.old result fcm.new dfcm.new words.new count.new }
 {
-    let answer = blocks::unpack(block, fcm, dfcm, words);
-    *count = answer.count;
-    answer.number
+    tell(blocks::unpack(block, fcm, dfcm, words), count)
 }
 
 // Creates an empty file for an exam at the start of a buffer.
@@ -60,9 +67,7 @@ pub extern "C" fn coil_unpack(
 pub extern "C" fn coil_create(file: &mut [u8], exam: u64, t: u32, length: &mut usize) -> u32
     ensures { CoilCreates file.old exam t result file.new length.new }
 {
-    let answer = exams::create(file, exam, t);
-    *length = answer.length;
-    answer.number
+    tell(exams::create(file, exam, t), length)
 }
 
 // Finds where the block of a slot stands in a file.
@@ -77,10 +82,11 @@ pub extern "C" fn coil_find(
 ) -> u32
     ensures { CoilFinds file.now length exam slot result offset.new block_length.new }
 {
-    let answer = exams::locate(file, length, exam, slot);
-    *offset = answer.offset;
-    *block_length = answer.size;
-    answer.number
+    let found = exams::locate(file, length, exam, slot);
+    let place = found.unwrap_or(BlockPlace { offset: 0, size: 0 });
+    *offset = place.offset;
+    *block_length = place.size;
+    number_told(&found)
 }
 
 // Fetches the words of a slot to the start of words.
@@ -97,9 +103,8 @@ pub extern "C" fn coil_fetch(
 ) -> u32
     ensures { CoilFetches file.now length exam slot fcm.old dfcm.old words.old result fcm.new dfcm.new words.new count.new }
 {
-    let answer = exams::fetch(file, length, exam, slot, fcm, dfcm, words);
-    *count = answer.count;
-    answer.number
+    let fetched = exams::fetch(file, length, exam, slot, fcm, dfcm, words);
+    tell(fetched, count)
 }
 
 // Packs words as the block of a slot above the last, and appends it to the file.
@@ -117,9 +122,8 @@ pub extern "C" fn coil_append(
 ) -> u32
     ensures { CoilAppends file.old length exam slot words.now fcm.old dfcm.old bench.old result file.new fcm.new dfcm.new bench.new new_length.new }
 {
-    let answer = exams::append(file, length, exam, slot, words, fcm, dfcm, bench);
-    *new_length = answer.length;
-    answer.number
+    let appended = exams::append(file, length, exam, slot, words, fcm, dfcm, bench);
+    tell(appended, new_length)
 }
 
 // Appends the map of each record, up to the first that is refused.
@@ -138,10 +142,10 @@ pub extern "C" fn coil_append_all(
 ) -> u32
     ensures { CoilAppendsAll file.old length exam records.now words.now fcm.old dfcm.old bench.old result file.new fcm.new dfcm.new bench.new appended.new new_length.new }
 {
-    let filled = exams::append_all(file, length, exam, records, words, fcm, dfcm, bench);
-    *appended = filled.appended;
-    *new_length = filled.length;
-    filled.number
+    let progress = exams::append_all(file, length, exam, records, words, fcm, dfcm, bench);
+    *appended = progress.appended;
+    *new_length = progress.length;
+    progress.refused.map_or(0, u32::from)
 }
 
 // Packs words as the block of a slot that is in the file, and puts it in the place of the slot's.
@@ -159,9 +163,8 @@ pub extern "C" fn coil_replace(
 ) -> u32
     ensures { CoilReplaces file.old length exam slot words.now fcm.old dfcm.old bench.old result file.new fcm.new dfcm.new bench.new new_length.new }
 {
-    let reply = exams::replace(file, length, exam, slot, words, fcm, dfcm, bench);
-    *new_length = reply.length;
-    reply.number
+    let replaced = exams::replace(file, length, exam, slot, words, fcm, dfcm, bench);
+    tell(replaced, new_length)
 }
 
 // Makes a new file, in another buffer, of the blocks that stand whole at the start of old bytes.
@@ -178,10 +181,16 @@ pub extern "C" fn coil_salvage(
 ) -> u32
     ensures { CoilSalvages old.now file.old exam t result file.new new_length.new kept.new left_over.new renumbered.new }
 {
-    let told = exams::salvage(old, file, exam, t);
-    *new_length = told.length;
-    *kept = told.kept;
-    *left_over = told.left_over;
-    *renumbered = told.renumbered;
-    told.number
+    let salvaged = exams::salvage(old, file, exam, t);
+    let made = salvaged.unwrap_or(SalvagedFile {
+        length: 0,
+        kept: 0,
+        left_over: 0,
+        renumbered: false,
+    });
+    *new_length = made.length;
+    *kept = made.kept;
+    *left_over = made.left_over;
+    *renumbered = u32::from(made.renumbered);
+    number_told(&salvaged)
 }

@@ -4,11 +4,12 @@
 // of them is in proofs/.
 #![tactic(auto)]
 
+pub use answers::Refusal;
 pub use exam_appending::append;
 pub use exam_fetching::fetch;
 pub use exam_filling::append_all;
-pub use exam_opening::{find, locate, open, opened_number};
+pub use exam_opening::{find, locate, open};
 pub use exam_replacing::replace;
-pub use exam_rules::{Filled, Located, Made, Opened, Record, Salvaged, Trailer};
+pub use exam_rules::{BlockPlace, Progress, Record, SalvagedFile, Trailer};
 pub use exam_salvaging::salvage;
 pub use exam_writing::create;
