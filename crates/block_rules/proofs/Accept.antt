@@ -12,7 +12,7 @@ use Rattle.words.specs.Bytes.{number}
 use Rattle.words.proofs.Tests.{either}
 use Rattle.answers.proofs.Checks.{unless-passes, unless_fails, unless_holds, all_pass, fails_here, fails_later, none_fails, none_above, at_most, afterwards-new, afterwards-old}
 use Rattle.block_rules.specs.Block.{block, count, stated_length, residuals_at, counted_codes, last_half, residual_length, coded_in, none_padded}
-use Rattle.block_rules.specs.Calls.{packed, packs_number, Packs, checked, unpacked, UnpacksWhere, Packed, Unpacked}
+use Rattle.block_rules.specs.Calls.{Checked, packed, packs_number, Packs, checked, unpacked, UnpacksWhere, Packed, Unpacked}
 use Rattle.block_rules.specs.Numbers.{pack_number, filler_stands, form_number, block_number, unpack_number, t_of}
 use Rattle.block_rules.specs.Inside.{Packable, PacksAll, Counted, Unpackable, UnpacksAll}
 use Rattle.block_rules.proofs.Tables.{tables-sized, sized-tables}
@@ -234,6 +234,15 @@ check_refused b k e h = cc (afterwards-old (block_number b) (count b) 0 (λ z. h
 pub check_done : (b : List ℕ) (n : ℕ) → block_number b ≡ 0 → n ≡ count b → record { number = 0; count = n } ≡ checked b
 unfolding checked
 check_done b n z e = cc (afterwards-new (block_number b) (count b) 0 z)
+
+-- what an answer of check tells
+pub checked-number : (b : List ℕ) (r : Checked) → r ≡ checked b → r.number ≡ block_number b
+unfolding checked
+checked-number b r e = ap (λ (x : Checked). x.number) e
+
+pub checked-count : (b : List ℕ) (n : ℕ) → record { number = 0; count = n } ≡ checked b → n ≡ count b
+unfolding checked
+checked-count b n e = ap (λ (x : Checked). x.count) e ∙ afterwards-new (block_number b) (count b) 0 (sym (ap (λ (x : Checked). x.number) e))
 
 -- ---- from an answer
 

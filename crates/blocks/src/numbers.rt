@@ -1,6 +1,9 @@
-// The numbers that packing and unpacking answer.
+// What packing and unpacking refuse.
 ghost use Rattle.std.specs.Prelude.{◌≡◌};
+ghost use Rattle.answers.specs.Refusals.{number_told};
 ghost use Rattle.block_rules.specs.Numbers.{is_table_length, tables_number, pack_number, unpack_number};
+
+use answers::Refusal;
 
 // Whether a table may have n words: a power of two from 1 to 65,536.
 fn is_table_length(n: usize) -> bool
@@ -13,50 +16,41 @@ fn is_table_length(n: usize) -> bool
     n == 1usize << t
 }
 
-// 1 where the tables differ in length or are no tables, else 0.
-fn tables_number(fcm: usize, dfcm: usize) -> u32
-    ensures { result ≡ tables_number fcm dfcm }
+// Refuses tables that differ in length or are no tables.
+fn check_tables(fcm: usize, dfcm: usize) -> Result<(), Refusal>
+    ensures { number_told result ≡ tables_number fcm dfcm }
 {
     if fcm != dfcm {
-        return 1;
+        return Err(Refusal::Tables);
     }
     if !is_table_length(fcm) {
-        return 1;
+        return Err(Refusal::Tables);
     }
-    0
+    Ok(())
 }
 
-// The number that pack answers.
-pub fn pack_number(count: usize, fcm: usize, dfcm: usize, room: usize) -> u32
-    ensures { result ≡ pack_number count fcm dfcm room }
+// Refuses what cannot be packed.
+pub fn check_pack(count: usize, fcm: usize, dfcm: usize, room: usize) -> Result<(), Refusal>
+    ensures { number_told result ≡ pack_number count fcm dfcm room }
 {
-    let tables = tables_number(fcm, dfcm);
-    if tables != 0 {
-        return tables;
-    }
+    check_tables(fcm, dfcm)?;
     if 65536 < count {
-        return 2;
+        return Err(Refusal::TooManyWords);
     }
     if room < 8 + (count + 1) / 2 + 8 * count {
-        return 3;
+        return Err(Refusal::NoRoom);
     }
-    0
+    Ok(())
 }
 
-// The number that unpack answers.
-pub fn unpack_number(block: &[u8], fcm: usize, dfcm: usize, room: usize) -> u32
-    ensures { result ≡ unpack_number block.now fcm dfcm room }
+// Refuses what cannot be unpacked.
+pub fn check_unpack(block: &[u8], fcm: usize, dfcm: usize, room: usize) -> Result<(), Refusal>
+    ensures { number_told result ≡ unpack_number block.now fcm dfcm room }
 {
-    let tables = tables_number(fcm, dfcm);
-    if tables != 0 {
-        return tables;
+    check_tables(fcm, dfcm)?;
+    let count = block_checking::check(block)?;
+    if room < count {
+        return Err(Refusal::NoRoom);
     }
-    let number = block_checking::block_number(block);
-    if number != 0 {
-        return number;
-    }
-    if room < block_checking::count(block) {
-        return 3;
-    }
-    0
+    Ok(())
 }

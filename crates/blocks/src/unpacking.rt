@@ -1,20 +1,18 @@
 // Unpacking a block.
-ghost use Rattle.block_rules.specs.Calls.{Unpacks};
+ghost use Rattle.block_rules.specs.Calls.{unpacked_told, Unpacks};
 
 use crate::numbers;
-use block_rules::Unpacked;
+use answers::Refusal;
 
-// Unpacks a block into words, with both tables cleared first.
-pub fn unpack(block: &[u8], fcm: &mut [u64], dfcm: &mut [u64], words: &mut [u64]) -> Unpacked
-    ensures { Unpacks block.now fcm.old dfcm.old words.old result fcm.new dfcm.new words.new }
+// Unpacks a block into words, with both tables cleared first. Answers the word count.
+pub fn unpack(
+    block: &[u8],
+    fcm: &mut [u64],
+    dfcm: &mut [u64],
+    words: &mut [u64],
+) -> Result<usize, Refusal>
+    ensures { Unpacks block.now fcm.old dfcm.old words.old (unpacked_told result) fcm.new dfcm.new words.new }
 {
-    let refusal = numbers::unpack_number(block, fcm.len(), dfcm.len(), words.len());
-    if refusal != 0 {
-        return Unpacked {
-            number: refusal,
-            count: 0,
-        };
-    }
-    let count = block_unpacking::unpack_all(block, fcm, dfcm, words);
-    Unpacked { number: 0, count }
+    numbers::check_unpack(block, fcm.len(), dfcm.len(), words.len())?;
+    Ok(block_unpacking::unpack_all(block, fcm, dfcm, words))
 }

@@ -1,5 +1,5 @@
 -- Finding a slot in a file that was opened or refused.
-use mathlib.Core.Path.{◌≡◌, refl, sym, ap, ◌∙◌}
+use mathlib.Core.Path.{◌≡◌, sym, ap, ◌∙◌}
 use mathlib.Core.List.{List, []}
 use Prim.Native.Nat.{ℕ, ◌-◌, ◌<◌, ◌+◌, ◌*◌, ◌≤◌}
 use native.Mathlib.Omega.{arith}
@@ -10,13 +10,13 @@ use Rattle.answers.proofs.Checks.{fails_here, fails_later, last_decides, afterwa
 use Rattle.exam_rules.specs.File.{Entry, block_of, entry}
 use Rattle.exam_rules.specs.Reading.{file_in, index_of, entry_of, entries_at, entry_at, directory_at, entries_in}
 use Rattle.exam_rules.specs.Numbers.{slot_number, find_number, block_in}
-use Rattle.exam_rules.specs.Calls.{opened, opened_number, Finds, located, Opened, Done, Refused}
+use Rattle.exam_rules.specs.Calls.{opened, Finds, located, Done, Refused}
 use Rattle.exam_rules.specs.Inside.{Standing}
 use Rattle.exam_rules.specs.declared.Trailer.{Trailer}
 use Rattle.exam_rules.proofs.Directory.{block_within}
 use Rattle.exam_rules.proofs.Opens.{refused-tells, done-tells, entries-many, trails-ends, body-long}
 use Rattle.exam_rules.proofs.Parts.{entries_are, many_is, index-at_most, start_is, rules_are, part_of_first, entry-there}
-use Rattle.exam_opening.specs.Inside.{PartOf}
+use Rattle.exam_opening.specs.Inside.{Found}
 use Rattle.exam_opening.specs.declared.Part.{Part}
 
 -- ---- the part of a slot in a file that is open
@@ -26,18 +26,9 @@ module _ (f : List ℕ) (tr : Trailer) (st : Standing f tr) where
     pub index_is : i ≡ index_of slot (file_in f).entries
     index_is = e ∙ ap (λ (es : List Entry). index_of slot es) (entries_are f tr st)
 
-    pub part_missing : i ≡ tr.entries → PartOf f slot (record { number = 10; index = i; start = 0; end = 0 })
+    pub part_missing : i ≡ tr.entries → 10 ≡ slot_number (file_in f) slot
     unfolding slot_number
-    part_missing q =
-        record {
-          number = unless_fails _ _ (le-ltb (index_of slot (file_in f).entries) (length (file_in f).entries) (omega (arith, index_is, many_is f tr st, entries-many f)));
-          index = index_is;
-          offset = sym (afterwards-old _ _ _ (λ z. omega arith));
-          size = sym (afterwards-old _ _ _ (λ z. omega arith));
-          order = omega arith;
-          within = omega arith;
-          bytes = sym (afterwards-old _ _ _ (λ z. omega arith));
-        }
+    part_missing q = unless_fails _ _ (le-ltb (index_of slot (file_in f).entries) (length (file_in f).entries) (omega (arith, index_is, many_is f tr st, entries-many f)))
 
     module _ (q : i ≡ tr.entries → ⊥) where
       pub below : i < tr.entries
@@ -57,48 +48,53 @@ module _ (f : List ℕ) (tr : Trailer) (st : Standing f tr) where
             let g : get_or (file_in f).entries i (entry slot 0 0) ≡ entry_at f (tr.start + 12 * i) = ap (λ (k : ℕ). get_or (file_in f).entries k (entry slot 0 0)) index_is ∙ entry-is in
             omega (arith, rw g at w, body-long f)
 
-        pub part-found : PartOf f slot (record { number = 0; index = i; start = offset; end = offset + size })
+        pub part-found : Found f slot (record { index = i; start = offset; end = offset + size })
         unfolding entry_at block_of file_in slot_number
         part-found =
             let k : offset + size - offset ≡ size = omega arith in
             let w = part-ends in
             record {
-              number = sym (unless-passes _ _ (lt-ltb (index_of slot (file_in f).entries) (length (file_in f).entries) (omega (arith, index_is, below, many_is f tr st, entries-many f))));
+              there = sym (unless-passes _ _ (lt-ltb (index_of slot (file_in f).entries) (length (file_in f).entries) (omega (arith, index_is, below, many_is f tr st, entries-many f))));
               index = index_is;
-              offset = o ∙ sym (ap (λ (x : Entry). x.offset) entry-is) ∙ sym (afterwards-new _ _ _ refl);
-              size = k ∙ s ∙ sym (ap (λ (x : Entry). x.size) entry-is) ∙ sym (afterwards-new _ _ _ refl);
+              offset = o ∙ sym (ap (λ (x : Entry). x.offset) entry-is);
+              size = k ∙ s ∙ sym (ap (λ (x : Entry). x.size) entry-is);
               order = omega arith;
               within = omega (arith, trails-ends f (rules_are f tr st));
-              bytes = rw (k, entry-is, ← o, ← s) (sym (part_of_first size offset (directory_at f) f w) ∙ sym (afterwards-new _ _ _ refl));
+              bytes = rw (k, entry-is, ← o, ← s) (sym (part_of_first size offset (directory_at f) f w));
             }
 
 -- ---- the calls
 
-module _ (b : List ℕ) (l exam slot : ℕ) (a : Opened) (e : a ≡ opened b l exam) where
-  pub find_refused : (k n : ℕ) → a ≡ Refused k → n ≡ opened_number a → Finds b l exam slot [] n
+module _ (b : List ℕ) (l exam slot : ℕ) where
+  -- the number of finding: of the opening where it is refused, and then of the slot
+  pub not-opened : (k : ℕ) → Refused k ≡ opened b l exam → k ≡ find_number b l exam slot
   unfolding find_number
-  find_refused k n d q =
-      let t = refused-tells b l exam k (sym e ∙ d) in
-      let r : n ≡ find_number b l exam slot =
-      fails_here _ _ _ (q ∙ ap opened_number d ∙ t.0) (λ z. t.1 (sym (q ∙ ap opened_number d) ∙ z)) in
-      record { number_left = r; answer = sym (afterwards-old _ _ _ (λ z. t.1 (sym (q ∙ ap opened_number d) ∙ r ∙ z))) }
+  not-opened k e = let t = refused-tells b l exam k (sym e) in fails_here _ _ _ t.0 t.1
 
-  pub locate_refused : (k n : ℕ) → a ≡ Refused k → n ≡ opened_number a → record { number = n; offset = 0; size = 0 } ≡ located b l exam slot
-  unfolding located
-  locate_refused k n d q =
-      let r = (find_refused k n d q).number_left in
-      let m : find_number b l exam slot ≡ 0 → ⊥ = λ z. (refused-tells b l exam k (sym e ∙ d)).1 (sym (q ∙ ap opened_number d) ∙ r ∙ z) in
-      cc (r, afterwards-old _ (entry_of slot (file_in (take l b))).offset 0 m, afterwards-old _ (entry_of slot (file_in (take l b))).size 0 m)
+  pub once-opened : (tr : Trailer) (k : ℕ) → Done tr ≡ opened b l exam → k ≡ slot_number (file_in (take l b)) slot → k ≡ find_number b l exam slot
+  unfolding find_number
+  once-opened tr k e q = q ∙ fails_later _ _ _ (done-tells b l exam tr (sym e)).0 (last_decides _)
 
-  module _ (tr : Trailer) (d : a ≡ Done tr) (p : Part) (w : PartOf (take l b) slot p) where
-    pub find_number_lem : p.number ≡ find_number b l exam slot
-    unfolding find_number
-    find_number_lem = w.number ∙ fails_later _ _ _ (done-tells b l exam tr (sym e ∙ d)).0 (last_decides _)
+  module _ (k : ℕ) (e : k ≡ find_number b l exam slot) (h : k ≡ 0 → ⊥) where
+    pub find_refused : Finds b l exam slot [] k
+    find_refused = record { number_left = e; answer = sym (afterwards-old _ _ _ (λ z. h (e ∙ z))) }
 
-    pub find_done : Finds b l exam slot (take (p.end - p.start) (drop p.start (take l b))) p.number
-    unfolding block_in
-    find_done = record { number_left = find_number_lem; answer = w.bytes ∙ rw find_number_lem }
-
-    pub locate_done : record { number = p.number; offset = p.start; size = p.end - p.start } ≡ located b l exam slot
+    pub locate_refused : record { number = k; offset = 0; size = 0 } ≡ located b l exam slot
     unfolding located
-    locate_done = cc (find_number_lem, w.offset, w.size)
+    locate_refused =
+        let entry = entry_of slot (file_in (take l b)) in
+        cc (afterwards-old (find_number b l exam slot) entry.offset 0 (λ z. h (e ∙ z)), afterwards-old (find_number b l exam slot) entry.size 0 (λ z. h (e ∙ z)))
+
+  module _ (tr : Trailer) (p : Part) (d : Done tr ≡ opened b l exam) (w : Found (take l b) slot p) where
+    found_number : 0 ≡ find_number b l exam slot
+    found_number = once-opened tr 0 d w.there
+
+    pub find_done : Finds b l exam slot (take (p.end - p.start) (drop p.start (take l b))) 0
+    unfolding block_in
+    find_done = record { number_left = found_number; answer = w.bytes ∙ sym (afterwards-new _ _ _ (sym found_number)) }
+
+    pub locate_done : record { number = 0; offset = p.start; size = p.end - p.start } ≡ located b l exam slot
+    unfolding located
+    locate_done =
+        let entry = entry_of slot (file_in (take l b)) in
+        cc (found_number, w.offset, w.size, afterwards-new (find_number b l exam slot) entry.offset 0 (sym found_number), afterwards-new (find_number b l exam slot) entry.size 0 (sym found_number))

@@ -18,7 +18,7 @@ use Rattle.std.specs.Result.{is_err}
 use Rattle.std.proofs.Common.{None, Some, Result, Ok, Err}
 use Rattle.answers.specs.Refusals.{number_told}
 use Rattle.answers.specs.declared.Refusal.{Refusal}
-use Rattle.answers.proofs.Told.{refusal_tells}
+use Rattle.answers.proofs.Told.{refuses}
 use Rattle.block_rules.specs.Calls.{checked, checked_told, Checked}
 use Rattle.block_rules.proofs.Accept.{checks-number}
 use Rattle.exam_salvaging.specs.Inside.{standing_size, FoundIn}
@@ -41,7 +41,7 @@ check_tells b r e = ap (λ (x : Checked). x.number) e ∙ checks-number b
 
 pub check_fails : (b : List ℕ) (r : Result ℕ Refusal) → checked_told r ≡ checked b → true ≡ is_err r → block_number b ≡ 0 → ⊥
 check_fails b (Ok n) e h z = cc
-check_fails b (Err x) e h z = refusal_tells x (check_tells b (Err x) e ∙ z)
+check_fails b (Err x) e h z = refuses x (check_tells b (Err x) e ∙ z)
 
 pub check_passes : (b : List ℕ) (r : Result ℕ Refusal) → checked_told r ≡ checked b → false ≡ is_err r → block_number b ≡ 0
 check_passes b (Ok n) e h = sym (check_tells b (Ok n) e)

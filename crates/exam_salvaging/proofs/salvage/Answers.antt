@@ -1,5 +1,5 @@
 use mathlib.Core.Path.{sym}
-use Rattle.answers.proofs.Told.{refusal_tells, same_refusal}
+use Rattle.answers.proofs.Told.{refuses, handed_on}
 use Rattle.exam_salvaging.proofs.Rebuilt.{found-few, found_within, found_number, rebuilding, salvage_refused, salvage_done}
 use Rattle.exam_salvaging.proofs.salvage.Goals as goal
 
@@ -9,7 +9,7 @@ check_salvage-requires c = found-few c.find_blocks-found.ensures
 pub returns-in_err-check_salvage : goal.returns-in_err-check_salvage
 returns-in_err-check_salvage c =
     let number = found_number _ _ c.find_blocks-found.ensures _ _ c.args.file.now _ c.in_err-check_salvage.ensures in
-    rw (same_refusal _ _ c.from_residual.ensures.1) (salvage_refused _ _ _ _ _ number (refusal_tells _))
+    rw (handed_on c.from_residual.ensures.1) (salvage_refused _ _ _ _ _ number (refuses _))
 
 pub rebuild-length-requires : goal.rebuild-length-requires
 rebuild-length-requires c = rebuilding _ _ c.find_blocks-found.ensures _ _ _ (sym c.in_ok-check_salvage.ensures)

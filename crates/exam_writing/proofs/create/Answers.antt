@@ -1,13 +1,13 @@
 use mathlib.Core.Path.{sym}
 use native.Mathlib.Omega.{arith}
-use Rattle.answers.proofs.Told.{refusal_tells, same_refusal}
+use Rattle.answers.proofs.Told.{refuses, handed_on}
 use Rattle.exam_rules.proofs.Changes.{change_refused}
 use Rattle.exam_rules.proofs.Accept.{create_takes}
 use Rattle.exam_writing.proofs.Writes.{create_done}
 use Rattle.exam_writing.proofs.create.Goals as goal
 
 pub returns-in_err-check_create : goal.returns-in_err-check_create
-returns-in_err-check_create c = rw (same_refusal _ _ c.from_residual.ensures.1) (change_refused _ _ _ _ c.in_err-check_create.ensures (refusal_tells _))
+returns-in_err-check_create c = rw (handed_on c.from_residual.ensures.1) (change_refused _ _ _ _ c.in_err-check_create.ensures (refuses _))
 
 pub put_trailer-requires : goal.put_trailer-requires
 put_trailer-requires c = ((create_takes _ _ _ (sym c.in_ok-check_create.ensures)).enough, omega arith)

@@ -1,12 +1,13 @@
-use native.Mathlib.Omega.{arith}
+use Rattle.std.proofs.Common.{sym}
+use Rattle.answers.proofs.Told.{refuses, handed_on}
 use Rattle.block_rules.proofs.Accept.{packable, pack_refused, pack_done}
 use Rattle.blocks.proofs.packing.pack.Goals as goal
 
-pub returns-then-refusal-ne0 : goal.returns-then-refusal-ne0
-returns-then-refusal-ne0 c = pack_refused _ _ _ _ _ c.pack_number-refusal.ensures (λ e. omega (arith, c.if-refusal-ne0.true))
+pub returns-in_err-check_pack : goal.returns-in_err-check_pack
+returns-in_err-check_pack c = rw (handed_on c.from_residual.ensures.1) (pack_refused _ _ _ _ _ c.in_err-check_pack.ensures (refuses _))
 
-pub pack_all-length-requires : goal.pack_all-length-requires
-pack_all-length-requires c = packable _ _ _ _ (omega (arith, c.pack_number-refusal.ensures, c.if-refusal-ne0.false))
+pub pack_all-requires : goal.pack_all-requires
+pack_all-requires c = packable _ _ _ _ (sym c.in_ok-check_pack.ensures)
 
 pub returns : goal.returns
-returns c = pack_done _ _ _ _ _ _ _ _ (omega (arith, c.pack_number-refusal.ensures, c.if-refusal-ne0.false)) c.pack_all-length.ensures
+returns c = pack_done _ _ _ _ _ _ _ _ (sym c.in_ok-check_pack.ensures) c.pack_all.ensures

@@ -3,7 +3,7 @@ use Prim.Native.Nat.{◌+◌}
 use native.Mathlib.Omega.{arith}
 use Rattle.words.proofs.Bytes.{field_below}
 use Rattle.exam_checking.proofs.Walk.{walk-starts, slot_too_low, offset_apart, block-too_short, walk_on, walk-joins, walk_gap}
-use Rattle.exam_checking.proofs.entries_number.Goals as goal
+use Rattle.exam_checking.proofs.check_entries.Goals as goal
 
 pub loop-i-init : goal.loop-i-init
 loop-i-init c = walk-starts _ _ _ _ _
@@ -57,8 +57,8 @@ loop-i-preserved c =
     walk_on _ _ _ _ _ _ _ _ _ _ _ c.loop-i-test.true c.loop-i.invariant c.get_bytes-slot.ensures c.get_bytes-offset.ensures c.get_bytes-size.ensures
     c.if-slot-lowest.false (sym c.joins.ensures ∙ c.if-not-joins.false) c.if-size-lt8.false
 
-pub returns-then-joins : goal.returns-then-joins
-returns-then-joins c = walk-joins _ _ _ _ _ _ _ _ c.loop-i-test.false c.loop-i.invariant (sym c.joins-2.ensures ∙ c.if-joins.true)
+pub returns-then-not-joins-2 : goal.returns-then-not-joins-2
+returns-then-not-joins-2 c = walk_gap _ _ _ _ _ _ _ _ c.loop-i-test.false c.loop-i.invariant (sym c.joins-2.ensures ∙ c.if-not-joins-2.true)
 
 pub returns : goal.returns
-returns c = walk_gap _ _ _ _ _ _ _ _ c.loop-i-test.false c.loop-i.invariant (sym c.joins-2.ensures ∙ c.if-joins.false)
+returns c = walk-joins _ _ _ _ _ _ _ _ c.loop-i-test.false c.loop-i.invariant (sym c.joins-2.ensures ∙ c.if-not-joins-2.false)

@@ -3,7 +3,7 @@ use native.Mathlib.Omega.{arith}
 use borrow.Author.Tests.{le-leb, lt-leb, eq-eqb, ne_eqb}
 use Rattle.answers.proofs.Checks.{all_pass, passes, stops}
 use Rattle.exam_rules.specs.Numbers.{fields_number}
-use Rattle.exam_checking.proofs.fields_number.Goals as goal
+use Rattle.exam_checking.proofs.check_fields.Goals as goal
 
 pub returns-then-not-edition_known : goal.returns-then-not-edition_known
 unfolding fields_number

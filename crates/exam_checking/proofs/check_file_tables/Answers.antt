@@ -4,7 +4,7 @@ use borrow.Author.Tests.{eq-eqb, ne_eqb}
 use Rattle.answers.proofs.Checks.{all_pass, passes, stops}
 use Rattle.block_rules.proofs.Tables.{shifted_one}
 use Rattle.exam_rules.specs.Numbers.{file_tables_number}
-use Rattle.exam_checking.proofs.file_tables_number.Goals as goal
+use Rattle.exam_checking.proofs.check_file_tables.Goals as goal
 
 pub returns-then-fcm-dfcm : goal.returns-then-fcm-dfcm
 unfolding file_tables_number
