@@ -1,26 +1,28 @@
 -- Appending to a file that was opened or refused.
 use mathlib.Core.Path.{◌≡◌, refl, sym, ap, ap₂, ◌∙◌}
 use mathlib.Core.List.{List, ◌++◌, append_assoc}
-use Prim.Native.Nat.{ℕ, zero, suc, ◌+◌, ◌-◌, ◌*◌, ◌≤◌}
+use Prim.Native.Nat.{ℕ, zero, suc, ◌+◌, ◌-◌, ◌*◌, ◌/◌, ◌%◌, ◌^◌, ◌≤◌, ◌<◌}
 use native.Mathlib.Omega.{arith}
-use lib.ListN.{length, take, drop, length-append}
-use Rattle.words.specs.Bytes.{Bytes, field}
+use lib.ListN.{length, take, drop, length-append, length-drop}
+use lib.Seq.{drop-drop, length-take-le, take-append-le, drop-append_seam}
+use Rattle.words.specs.Bytes.{Bytes, number, field}
+use Rattle.words.proofs.Bytes.{field_below}
 use Rattle.answers.specs.Answers.{over}
 use Rattle.answers.proofs.Checks.{fails_here, fails_later, last_decides, afterwards-new}
 use Rattle.block_rules.specs.Numbers.{t_of}
 use Rattle.block_rules.specs.Inside.{PacksAll}
 use Rattle.block_rules.proofs.Lengths.{block-at_most}
 use Rattle.block_rules.proofs.Round.{written-block}
-use Rattle.exam_rules.specs.File.{Entry, entry, entry_bytes, directory_bytes, trailer_bytes, file_length, file_bytes, appended}
+use Rattle.exam_rules.specs.File.{entry, entry_bytes, directory_bytes, trailer_bytes, file_length, file_bytes, appended}
 use Rattle.exam_rules.specs.Reading.{entry_at, entries_at, file_in}
 use Rattle.exam_rules.specs.Numbers.{next_slot, append_number}
-use Rattle.exam_rules.specs.Calls.{opened, opened_number, appends_number, Appends, Opened, Done, Refused}
+use Rattle.exam_rules.specs.Calls.{opened, appends_number, Appends, Done, Refused}
 use Rattle.exam_rules.specs.Inside.{Standing}
 use Rattle.exam_rules.specs.declared.Trailer.{Trailer}
-use Rattle.exam_rules.proofs.Opens.{refused-tells, done-tells, standing}
+use Rattle.exam_rules.proofs.Opens.{opens_in, refused-tells, done-tells, standing}
 use Rattle.exam_rules.proofs.Parts.{tells-edition, tells-t, tells-entries, tells-start, entries_are, t-small}
 use Rattle.exam_rules.proofs.Changes.{append-stopped, change_done, makes}
-use Rattle.exam_rules.proofs.Entries.{directory_snoc}
+use Rattle.exam_rules.proofs.Entries.{directory_snoc, entries_in_first}
 use Rattle.exam_rules.proofs.Stands.{stands-ends, stands-body, stands-exam, stands-directory}
 use Rattle.exam_rules.proofs.Accept.{Appendable, appendable}
 use Rattle.exam_rules.proofs.Stored.{packed_all, bench-within}
@@ -37,16 +39,46 @@ next_last f (suc m) at lowest =
     let e : at + 12 * suc m ≡ (at + 12) + 12 * m = omega arith in
     rw e (next_last f m (at + 12) (field 4 at f + 1))
 
-pub next_of : (f : List ℕ) (n at x : ℕ) → (n ≡ 0 → ⊥) → x ≡ field 4 (at + 12 * (n - 1)) f → x + 1 ≡ next_slot 0 (entries_at f at n)
-next_of f zero at x h e = absurd (h refl)
-next_of f (suc m) at x h e =
-    let q : suc m - 1 ≡ m = omega arith in
-    rw (e, q) (sym (next_last f m at 0))
+-- the last entry of a directory, where so much stands before it and behind it
+module _ (d before last after : List ℕ) (e : d ≡ (before ++ last) ++ after) (twelve : length last ≡ 12) where
+  last_field : field 4 0 last ≡ field 4 (length before) d
+  last_field =
+      rw (e, append_assoc before last after, drop-append_seam before (last ++ after)) (ap number (sym (take-append-le 4 last after (omega (arith, twelve)))))
+
+  pub last_small : Bytes d → field 4 0 last < 2 ^ 32
+  last_small bytes = rw last_field (field_below 4 (length before) d bytes)
+
+  pub next_of : (x : ℕ) → length after ≡ length d % 12 → x ≡ field 4 0 last → x + 1 ≡ next_slot 0 (entries_at d 0 (length d / 12))
+  next_of x left q =
+      let m = length before / 12 in
+      let long : length d ≡ length before + 12 + length after =
+      ap length e ∙ length-append (before ++ last) after ∙ ap (λ (k : ℕ). k + length after) (length-append before last ∙ ap (λ (k : ℕ). length before + k) twelve) in
+      let many : length d / 12 ≡ suc m = omega (arith, long, left) in
+      let there : 0 + 12 * m ≡ length before = omega (arith, long, left) in
+      rw (many, next_last d m 0 0, there) (ap (λ (k : ℕ). k + 1) (q ∙ last_field))
+
+pub none-before : (d : List ℕ) → length d < 12 → 0 ≡ next_slot 0 (entries_at d 0 (length d / 12))
+none-before d h = let e : length d / 12 ≡ 0 = omega arith in rw e
+
+-- entries are read from a part of the bytes as from the whole
+entries_in_rest : (f : List ℕ) (n start at : ℕ) → entries_at (drop start f) at n ≡ entries_at f (start + at) n
+unfolding entry_at
+entries_in_rest f zero start at = refl
+entries_in_rest f (suc n) start at =
+    let next : start + (at + 12) ≡ start + at + 12 = omega arith in
+    let four : start + (at + 4) ≡ start + at + 4 = omega arith in
+    let eight : start + (at + 8) ≡ start + at + 8 = omega arith in
+    rw (entries_in_rest f n start (at + 12), drop-drop at start f, drop-drop (at + 4) start f, drop-drop (at + 8) start f, next, four, eight)
+
+entries_in_part : (f : List ℕ) (n start : ℕ) → entries_at (take (12 * n) (drop start f)) 0 n ≡ entries_at f start n
+entries_in_part f n start =
+    let e : start + 0 ≡ start = omega arith in
+    entries_in_first (drop start f) n 0 (12 * n) (omega arith) ∙ entries_in_rest f n start 0 ∙ rw e
 
 -- ---- the file that adding a block makes
 
 module _ (b : List ℕ) (l exam : ℕ) (tr : Trailer) (o : opened b l exam ≡ Done tr) (h : Bytes b) (slot : ℕ) (blk : List ℕ) where
-  grown : (b' : List ℕ) (size : ℕ) → Adding b blk tr.start tr.entries → Adds b blk tr.start tr.entries slot tr.edition tr.t exam b' size
+  grown : (b' : List ℕ) (size : ℕ) → Adding b blk tr → Adds b blk tr slot exam b' size
       → (size ≡ file_length (appended (file_in (take l b)) slot blk)) × (b' ≡ over (file_bytes (appended (file_in (take l b)) slot blk)) b)
   grown b' size r a =
       let st = standing b l exam tr o in
@@ -66,59 +98,80 @@ module _ (b : List ℕ) (l exam : ℕ) (tr : Trailer) (o : opened b l exam ≡ D
         makes b b' _ g tr.start blk (omega (arith, r.room)) (ap (λ (y : List ℕ). y ++ blk) (stands-body b l exam tr o)) (omega (arith, r.room, sz, a.end)) x-is a.bytes,
       )
 
+-- ---- the directory of a file that is open
+
+module _ (b : List ℕ) (l exam : ℕ) (tr : Trailer) (o : opened b l exam ≡ Done tr) where
+  -- the directory stands in the buffer
+  pub directory-within : tr.start + 12 * tr.entries ≤ length b
+  directory-within = omega (arith, stands-ends b l exam tr o, (opens_in b l exam (done-tells b l exam tr o).0).within)
+
+  -- the directory's bytes, as the code cuts them out of the buffer
+  abbrev directory : List ℕ
+  directory = take (tr.start + 12 * tr.entries - tr.start) (drop tr.start b)
+
+  -- the lowest slot that may come next, read from those
+  pub next_read : (next : ℕ) → next ≡ next_slot 0 (entries_at directory 0 (length directory / 12)) → next ≡ next_slot 0 (file_in (take l b)).entries
+  next_read next q =
+      let size : tr.start + 12 * tr.entries - tr.start ≡ 12 * tr.entries = omega arith in
+      let long : length directory ≡ 12 * tr.entries = length-take-le _ (drop tr.start b) (omega (arith, length-drop tr.start b, directory-within)) ∙ size in
+      let many : length directory / 12 ≡ tr.entries = omega (arith, long) in
+      let es : entries_at directory 0 tr.entries ≡ (file_in (take l b)).entries =
+      rw size (entries_in_part b tr.entries tr.start)
+      ∙ sym (entries_in_first b tr.entries tr.start l (omega (arith, stands-ends b l exam tr o)))
+      ∙ entries_are (take l b) tr (standing b l exam tr o) in
+      rw (many, es) at q
+
 -- ---- append
 
 module _ (b : List ℕ) (l exam slot : ℕ) (words fcm dfcm bench : List ℕ) where
   -- where opening refused
-  pub append-refused : (a : Opened) (k n : ℕ) → a ≡ opened b l exam → a ≡ Refused k → n ≡ opened_number a
-      → Appends b l exam slot words fcm dfcm bench (record { number = n; length = 0 }) b fcm dfcm bench
-  append-refused a k n e d q =
-      let t = refused-tells b l exam k (sym e ∙ d) in
-      let m : n ≡ k = q ∙ ap opened_number d in
-      append-stopped b l exam slot words fcm dfcm bench n (fails_here _ _ _ (m ∙ t.0) (λ z. t.1 (sym m ∙ z))) (λ z. t.1 (sym m ∙ z))
+  pub append-refused : (k : ℕ) → Refused k ≡ opened b l exam → Appends b l exam slot words fcm dfcm bench (record { number = k; length = 0 }) b fcm dfcm bench
+  append-refused k e =
+      let t = refused-tells b l exam k (sym e) in
+      append-stopped b l exam slot words fcm dfcm bench k (fails_here _ _ _ t.0 t.1) t.1
 
   -- where the file is open
-  module _ (tr : Trailer) (o : opened b l exam ≡ Done tr) (next n : ℕ) (q : next ≡ next_slot 0 (entries_at (take l b) tr.start tr.entries))
-      (r : n ≡ append_number tr.entries next slot tr.t (length words) (length fcm) (length dfcm) l (length b) (length bench)) where
+  module _ (tr : Trailer) (o : opened b l exam ≡ Done tr) where
     st : Standing (take l b) tr
     st = standing b l exam tr o
 
-    -- the number that the code finds is the call's
-    append-number : n ≡ appends_number b l exam slot words fcm dfcm bench
-    append-number =
-        let v : next ≡ next_slot 0 (file_in (take l b)).entries = q ∙ ap (λ (es : List Entry). next_slot 0 es) (entries_are (take l b) tr st) in
-        (rw (← (tells-entries (take l b) tr st), ← (tells-t (take l b) tr st), v) at r) ∙ fails_later _ _ _ (done-tells b l exam tr o).0 (last_decides _)
+    module _ (next n : ℕ) (q : next ≡ next_slot 0 (file_in (take l b)).entries)
+        (r : n ≡ append_number tr.entries next slot tr.t (length words) (length fcm) (length dfcm) l (length b) (length bench)) where
+      -- the number that the code finds is the call's
+      append-number : n ≡ appends_number b l exam slot words fcm dfcm bench
+      append-number =
+          (rw (← (tells-entries (take l b) tr st), ← (tells-t (take l b) tr st), q) at r) ∙ fails_later _ _ _ (done-tells b l exam tr o).0 (last_decides _)
 
-    pub opened-refused : (n ≡ 0 → ⊥) → Appends b l exam slot words fcm dfcm bench (record { number = n; length = 0 }) b fcm dfcm bench
-    opened-refused h = append-stopped b l exam slot words fcm dfcm bench n append-number h
+      pub opened-refused : (n ≡ 0 → ⊥) → Appends b l exam slot words fcm dfcm bench (record { number = n; length = 0 }) b fcm dfcm bench
+      opened-refused h = append-stopped b l exam slot words fcm dfcm bench n append-number h
 
-    module _ (z : n ≡ 0) where
-      pub opened-appendable : Appendable tr.entries next slot tr.t (length words) (length fcm) (length dfcm) l (length b) (length bench)
-      opened-appendable = appendable _ _ _ _ _ _ _ _ _ _ (t-small (take l b) tr st) (sym r ∙ z)
+      module _ (z : n ≡ 0) where
+        pub opened-appendable : Appendable tr.entries next slot tr.t (length words) (length fcm) (length dfcm) l (length b) (length bench)
+        opened-appendable = appendable _ _ _ _ _ _ _ _ _ _ (t-small (take l b) tr st) (sym r ∙ z)
 
-      module _ (k : ℕ) (fcm' dfcm' bench' : List ℕ) (p : PacksAll (t_of (length fcm)) words bench fcm' dfcm' bench' k) where
-        packs : PacksAll (file_in (take l b)).t words bench fcm' dfcm' bench' k
-        packs = rw (← (tells-t (take l b) tr st)) at (packed_all tr.t words fcm dfcm bench (t-small (take l b) tr st) opened-appendable.stores k fcm' dfcm' bench' p)
+        module _ (k : ℕ) (fcm' dfcm' bench' : List ℕ) (p : PacksAll (t_of (length fcm)) words bench fcm' dfcm' bench' k) where
+          packs : PacksAll (file_in (take l b)).t words bench fcm' dfcm' bench' k
+          packs = rw (← (tells-t (take l b) tr st)) at (packed_all tr.t words fcm dfcm bench (t-small (take l b) tr st) opened-appendable.stores k fcm' dfcm' bench' p)
 
-        pub bench-holds : k ≤ length bench'
-        bench-holds = bench-within packs
+          pub bench-holds : k ≤ length bench'
+          bench-holds = bench-within packs
 
-        pub adding : Adding b (take k bench') tr.start tr.entries
-        adding =
-            let c = opened-appendable in
-            let lk = ap length (written-block packs) in
-            let m = block-at_most (file_in (take l b)).t words in
-            let e = stands-ends b l exam tr o in
-            record { few = c.few; room = omega (arith, c.stores.room); small = omega (arith, c.stores.small) }
+          pub adding : Adding b (take k bench') tr
+          adding =
+              let c = opened-appendable in
+              let lk = ap length (written-block packs) in
+              let m = block-at_most (file_in (take l b)).t words in
+              let e = stands-ends b l exam tr o in
+              record { few = c.few; room = omega (arith, c.stores.room); small = omega (arith, c.stores.small) }
 
-        pub opened-done : Bytes b → (size : ℕ) (b' : List ℕ) → Adds b (take k bench') tr.start tr.entries slot tr.edition tr.t exam b' size
-            → Appends b l exam slot words fcm dfcm bench (record { number = 0; length = size }) b' fcm' dfcm' bench'
-        opened-done h size b' s =
-            let g = grown b l exam tr o h slot (take k bench') b' size adding s in
-            let y = sym append-number ∙ z in
-            record {
-              file = change_done _ size _ b b' y (rw (written-block packs) at g.0) (rw (written-block packs) at g.1);
-              fcm_left = packs.fcm ∙ sym (afterwards-new _ _ fcm y);
-              dfcm_left = packs.dfcm ∙ sym (afterwards-new _ _ dfcm y);
-              bench_left = packs.out ∙ sym (afterwards-new _ _ bench y);
-            }
+          pub opened-done : Bytes b → (size : ℕ) (b' : List ℕ) → Adds b (take k bench') tr slot exam b' size
+              → Appends b l exam slot words fcm dfcm bench (record { number = 0; length = size }) b' fcm' dfcm' bench'
+          opened-done h size b' s =
+              let g = grown b l exam tr o h slot (take k bench') b' size adding s in
+              let y = sym append-number ∙ z in
+              record {
+                file = change_done _ size _ b b' y (rw (written-block packs) at g.0) (rw (written-block packs) at g.1);
+                fcm_left = packs.fcm ∙ sym (afterwards-new _ _ fcm y);
+                dfcm_left = packs.dfcm ∙ sym (afterwards-new _ _ dfcm y);
+                bench_left = packs.out ∙ sym (afterwards-new _ _ bench y);
+              }

@@ -1,52 +1,51 @@
 // Appending a slot.
 #![tactic(auto)]
 
-ghost use Rattle.std.specs.Prelude.{◌≡◌, ◌≤◌};
+ghost use Rattle.std.specs.Prelude.{◌≡◌, ◌/◌, ◌≤◌, length};
+ghost use Rattle.answers.specs.Refusals.{number_told};
 ghost use Rattle.exam_rules.specs.Reading.{entries_at};
 ghost use Rattle.exam_rules.specs.Numbers.{next_slot, append_number};
-ghost use Rattle.exam_rules.specs.Calls.{opened, Appends};
-ghost use Rattle.exam_rules.specs.Inside.{Entries};
-ghost use Rattle.exam_rules.specs.declared.Opened.TheVariants.{Done};
+ghost use Rattle.exam_rules.specs.Calls.{opened, Done, made_told, Appends};
 
-use exam_rules::{Made, Opened, Trailer};
+use answers::Refusal;
+use exam_rules::Trailer;
 
-// The lowest slot that may come after n entries at a place.
-fn next_slot(file: &[u8], at: usize, n: usize) -> u64
-    requires { Entries file.now at n }
-    ensures { result ≡ next_slot 0 (entries_at file.now at n) }
+// The lowest slot that may come after the entries of a directory.
+fn next_slot(directory: &[u8]) -> u64
+    ensures { result ≡ next_slot 0 (entries_at directory.now 0 (length directory.now / 12)) }
 {
-    if n == 0 {
+    let Some(last) = directory.chunks_exact(12).next_back() else {
         return 0;
-    }
-    words::get_bytes(file, at + 12 * (n - 1), 4) + 1
+    };
+    words::get_bytes(last, 0, 4) + 1
 }
 
-// The number that appending answers, once the file is open.
-fn append_number(
-    entries: usize,
+// Whether appending is refused once the file is open, and why.
+#[tactic(auto, using(std::proofs::lemmas::Bool::Decides::nat_tests), unfolding(exam_rules::specs::Numbers::append_number, answers::specs::Answers::unless, answers::specs::Answers::first_failure))]
+fn check_append(
+    trailer: Trailer,
     next: u64,
     slot: u32,
-    t: usize,
     count: usize,
     fcm: usize,
     dfcm: usize,
     length: usize,
     buffer: usize,
     bench: usize,
-) -> u32
-    requires { (t ≤ 16) × (length ≤ 16777216) }
-    ensures { result ≡ append_number entries next slot t count fcm dfcm length buffer bench }
+) -> Result<(), Refusal>
+    requires { (trailer.t ≤ 16) × (length ≤ 16777216) }
+    ensures { number_told result ≡ append_number trailer.entries next slot trailer.t count fcm dfcm length buffer bench }
 {
-    if 1024 <= entries {
-        return 12;
+    if 1024 <= trailer.entries {
+        return Err(Refusal::TooManyEntries);
     }
     if (slot as u64) < next {
-        return 11;
+        return Err(Refusal::SlotNotAbove);
     }
-    exam_checking::store_number(t, count, fcm, dfcm, length + 12, buffer, bench)
+    exam_checking::check_store(trailer.t, count, fcm, dfcm, length + 12, buffer, bench)
 }
 
-// Appends a slot to a file that is open.
+// Appends a slot to a file that is open. Answers the file's new length.
 pub fn append_opened(
     file: &mut [u8],
     length: usize,
@@ -57,46 +56,29 @@ pub fn append_opened(
     fcm: &mut [u64],
     dfcm: &mut [u64],
     bench: &mut [u8],
-) -> Made
+) -> Result<usize, Refusal>
     requires { opened file.old length exam ≡ Done trailer }
-    ensures { Appends file.old length exam slot words.now fcm.old dfcm.old bench.old result file.new fcm.new dfcm.new bench.new }
+    ensures { Appends file.old length exam slot words.now fcm.old dfcm.old bench.old (made_told result) file.new fcm.new dfcm.new bench.new }
 {
-    let start = trailer.start;
-    let n = trailer.entries;
-    let next = next_slot(&file[..length], start, n);
-    let number = append_number(
-        n,
+    let directory_end = trailer.start + 12 * trailer.entries;
+    let next = next_slot(&file[trailer.start..directory_end]);
+    check_append(
+        trailer,
         next,
         slot,
-        trailer.t,
         words.len(),
         fcm.len(),
         dfcm.len(),
         length,
         file.len(),
         bench.len(),
-    );
-    if number != 0 {
-        return Made { number, length: 0 };
-    }
+    )?;
     let size = block_packing::pack_all(words, fcm, dfcm, bench);
-    let new_length = exam_writing::add_block(
-        file,
-        &bench[..size],
-        start,
-        n,
-        slot,
-        trailer.edition,
-        trailer.t,
-        exam,
-    );
-    Made {
-        number: 0,
-        length: new_length,
-    }
+    Ok(exam_writing::add_block(file, &bench[..size], trailer, slot, exam))
 }
 
-// Packs words as the block of a slot above the last, and appends it to the file.
+// Packs words as the block of a slot above the last, and appends it to the file. Answers the file's new
+// length.
 pub fn append(
     file: &mut [u8],
     length: usize,
@@ -106,15 +88,12 @@ pub fn append(
     fcm: &mut [u64],
     dfcm: &mut [u64],
     bench: &mut [u8],
-) -> Made
-    ensures { Appends file.old length exam slot words.now fcm.old dfcm.old bench.old result file.new fcm.new dfcm.new bench.new }
+) -> Result<usize, Refusal>
+    ensures { Appends file.old length exam slot words.now fcm.old dfcm.old bench.old (made_told result) file.new fcm.new dfcm.new bench.new }
 {
-    let answer = exam_opening::open(&file[..], length, exam);
-    let Opened::Done(trailer) = answer else {
-        return Made {
-            number: exam_opening::opened_number(answer),
-            length: 0,
-        };
+    let opened = exam_opening::open(&file[..], length, exam);
+    let Ok(trailer) = opened else {
+        return Err(opened.unwrap_err());
     };
     append_opened(file, length, exam, trailer, slot, words, fcm, dfcm, bench)
 }

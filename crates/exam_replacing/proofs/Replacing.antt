@@ -1,32 +1,30 @@
 -- Replacing in a file that was opened or refused.
 use mathlib.Core.Path.{◌≡◌, sym, ap, ap₂, ◌∙◌}
-use mathlib.Core.List.{List, [], ◌∷◌}
+use mathlib.Core.List.{List}
 use Prim.Native.Nat.{ℕ, ◌-◌, ◌≤◌}
 use native.Mathlib.Omega.{arith}
-use lib.Dec.{ltb}
-use lib.ListN.{length, get_or, take, get_or-eq_default}
-use borrow.Author.Tests.{ltb-false}
-use Rattle.words.proofs.Tests.{either}
-use Rattle.answers.specs.Answers.{first_failure, over}
-use Rattle.answers.proofs.Checks.{unless-passes, unless_fails, fails_here, fails_later, last_decides, none_fails, afterwards-new, afterwards-old}
+use lib.ListN.{length, get_or, take}
+use Rattle.answers.specs.Answers.{over}
+use Rattle.answers.proofs.Checks.{fails_here, fails_later, last_decides, afterwards-new, afterwards-old}
 use Rattle.block_rules.specs.Block.{block}
 use Rattle.block_rules.specs.Numbers.{t_of}
 use Rattle.block_rules.specs.Inside.{PacksAll}
 use Rattle.block_rules.proofs.Lengths.{block-at_most}
 use Rattle.block_rules.proofs.Round.{written-block}
-use Rattle.exam_rules.specs.File.{Entry, entry, File, file_length, file_bytes, replaced}
+use Rattle.exam_rules.specs.File.{entry, File, file_length, file_bytes, replaced}
 use Rattle.exam_rules.specs.Reading.{file_in, index_of, entry_of}
-use Rattle.exam_rules.specs.Numbers.{slot_number, find_number, store_number, replace_number}
-use Rattle.exam_rules.specs.Calls.{opened, opened_number, replaces_number, Replaces, Opened, Done, Refused}
+use Rattle.exam_rules.specs.Numbers.{find_number, store_number, replace_number}
+use Rattle.exam_rules.specs.Calls.{opened, replaces_number, Replaces, Done}
 use Rattle.exam_rules.specs.Inside.{Standing}
 use Rattle.exam_rules.specs.declared.Trailer.{Trailer}
-use Rattle.exam_rules.proofs.Opens.{refused-tells, done-tells, standing}
+use Rattle.exam_rules.proofs.Opens.{standing}
 use Rattle.exam_rules.proofs.Parts.{no_default, tells-t, t-small}
 use Rattle.exam_rules.proofs.Changes.{change_refused, change_done}
 use Rattle.exam_rules.proofs.Accept.{Storable, storable, find_tells}
 use Rattle.exam_rules.proofs.Stored.{packed_all, bench-within}
-use Rattle.exam_opening.specs.Inside.{PartOf}
+use Rattle.exam_opening.specs.Inside.{Found}
 use Rattle.exam_opening.specs.declared.Part.{Part}
+use Rattle.exam_opening.proofs.Finding.{once-opened}
 use Rattle.exam_rewriting.specs.Inside.{Replacing, rewritten, Rewrites}
 
 module _ (b : List ℕ) (l exam slot : ℕ) (words fcm dfcm bench : List ℕ) where
@@ -41,54 +39,32 @@ module _ (b : List ℕ) (l exam slot : ℕ) (words fcm dfcm bench : List ℕ) wh
         bench_left = sym (afterwards-old _ _ bench r);
       }
 
-  -- where opening refused
-  pub replace_refused : (a : Opened) (k n : ℕ) → a ≡ opened b l exam → a ≡ Refused k → n ≡ opened_number a
-      → Replaces b l exam slot words fcm dfcm bench (record { number = n; length = 0 }) b fcm dfcm bench
-  unfolding replace_number find_number
-  replace_refused a k n e d q =
-      let t = refused-tells b l exam k (sym e ∙ d) in
-      let m : n ≡ k = q ∙ ap opened_number d in
-      let h : n ≡ 0 → ⊥ = λ z. t.1 (sym m ∙ z) in
-      replace_stopped n (fails_here _ _ _ (fails_here _ _ _ (m ∙ t.0) h) h) h
+  -- where opening refused, or the slot is missing
+  pub not_found : (k : ℕ) → k ≡ find_number b l exam slot → (k ≡ 0 → ⊥) → Replaces b l exam slot words fcm dfcm bench (record { number = k; length = 0 }) b fcm dfcm bench
+  unfolding replace_number
+  not_found k e h = replace_stopped k (fails_here _ _ _ e h) h
 
-  -- where the file is open, and the slot was looked for
-  module _ (tr : Trailer) (o : opened b l exam ≡ Done tr) (p : Part) (w : PartOf (take l b) slot p) where
+  -- where the file is open, and the slot was found
+  module _ (tr : Trailer) (o : opened b l exam ≡ Done tr) (p : Part) (w : Found (take l b) slot p) where
     st : Standing (take l b) tr
     st = standing b l exam tr o
 
-    find_number_lem : p.number ≡ find_number b l exam slot
-    unfolding find_number
-    find_number_lem = w.number ∙ fails_later _ _ _ (done-tells b l exam tr o).0 (last_decides _)
+    find_number_lem : 0 ≡ find_number b l exam slot
+    find_number_lem = once-opened b l exam slot tr 0 (sym o) w.there
 
-    module _ (stored n : ℕ) (r : stored ≡ store_number tr.t (length words) (length fcm) (length dfcm) (l - (p.end - p.start)) (length b) (length bench))
-        (first : n ≡ first_failure (p.number ∷ stored ∷ [])) where
-      -- where the slot is missing, its part and its entry have no bytes
-      size_is : p.end - p.start ≡ (entry_of slot (file_in (take l b))).size
-      unfolding entry_of slot_number
-      size_is =
-          let es = (file_in (take l b)).entries in
-          either (ltb (index_of slot es) (length es)) (λ q. w.size ∙ afterwards-new _ _ 0 (w.number ∙ unless-passes _ _ q))
-          (λ q.
-          let ten : p.number ≡ 10 = w.number ∙ sym (unless_fails _ _ q) in
-          w.size ∙ afterwards-old _ _ 0 (λ z. omega arith) ∙ sym (ap (λ (e : Entry). e.size) (get_or-eq_default es (entry slot 0 0) (ltb-false _ _ q))))
-
+    module _ (n : ℕ) (r : n ≡ store_number tr.t (length words) (length fcm) (length dfcm) (l - (p.end - p.start)) (length b) (length bench)) where
       -- the number that the code finds is the call's
       replace_number_lem : n ≡ replaces_number b l exam slot words fcm dfcm bench
       unfolding replace_number
-      replace_number_lem = first ∙ rw (r, find_number_lem, ← (tells-t (take l b) tr st), size_is)
+      replace_number_lem =
+          fails_later _ _ _ (sym find_number_lem) ((rw (← (tells-t (take l b) tr st), w.size) at r) ∙ last_decides _)
 
       pub replace_not_done : (n ≡ 0 → ⊥) → Replaces b l exam slot words fcm dfcm bench (record { number = n; length = 0 }) b fcm dfcm bench
       replace_not_done h = replace_stopped n replace_number_lem h
 
       module _ (z : n ≡ 0) where
-        none_failed : (p.number ≡ 0) × (first_failure (stored ∷ []) ≡ 0)
-        none_failed = none_fails _ _ (sym first ∙ z)
-
-        found : p.number ≡ 0
-        found = none_failed.0
-
         pub stores : Storable tr.t (length words) (length fcm) (length dfcm) (l - (p.end - p.start)) (length b) (length bench)
-        stores = storable _ _ _ _ _ _ _ (t-small (take l b) tr st) (sym r ∙ (none_fails _ _ none_failed.1).0)
+        stores = storable _ _ _ _ _ _ _ (t-small (take l b) tr st) (sym r ∙ z)
 
         module _ (k : ℕ) (fcm' dfcm' bench' : List ℕ) (q : PacksAll (t_of (length fcm)) words bench fcm' dfcm' bench' k) where
           packs : PacksAll (file_in (take l b)).t words bench fcm' dfcm' bench' k
@@ -101,7 +77,7 @@ module _ (b : List ℕ) (l exam slot : ℕ) (words fcm dfcm bench : List ℕ) wh
           replacing =
               let lk = ap length (written-block packs) in
               let m = block-at_most (file_in (take l b)).t words in
-              record { opens = o; slot = slot; part = w; found = found; room = omega (arith, stores.room); small = omega (arith, stores.small) }
+              record { opens = o; slot = slot; part = w; room = omega (arith, stores.room); small = omega (arith, stores.small) }
 
           pub replace_done : (size : ℕ) (b' : List ℕ) → Rewrites b (take k bench') l p.index b' size
               → Replaces b l exam slot words fcm dfcm bench (record { number = 0; length = size }) b' fcm' dfcm' bench'
@@ -109,7 +85,7 @@ module _ (b : List ℕ) (l exam slot : ℕ) (words fcm dfcm bench : List ℕ) wh
           replace_done size b' s =
               let y = sym replace_number_lem ∙ z in
               let file = file_in (take l b) in
-              let below = (find_tells b l exam slot (sym find_number_lem ∙ found)).1 in
+              let below = (find_tells b l exam slot (sym find_number_lem)).1 in
               let its : get_or file.entries p.index (entry 0 0 0) ≡ entry_of slot file =
               rw w.index (no_default file.entries (index_of slot file.entries) (entry 0 0 0) (entry slot 0 0) below) in
               let new : rewritten b (take k bench') l p.index ≡ replaced file (entry_of slot file) (block file.t words) = rw (written-block packs, its) in

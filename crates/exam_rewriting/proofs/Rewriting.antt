@@ -9,7 +9,7 @@ use borrow.Author.Tests.{ltb-true}
 use Rattle.words.specs.Bytes.{Bytes}
 use Rattle.words.proofs.Stores.{kept-below, kept_above, join}
 use Rattle.answers.specs.Answers.{over}
-use Rattle.answers.proofs.Checks.{unless_holds, afterwards-new}
+use Rattle.answers.proofs.Checks.{unless_holds}
 use Rattle.exam_rules.specs.File.{Entry, entry, entry_bytes, directory_bytes, trailer_bytes, File, file_length, file_bytes, resized}
 use Rattle.exam_rules.specs.Reading.{entry_at, entries_at, file_in, index_of, entry_of}
 use Rattle.exam_rules.specs.Numbers.{most_bytes, slot_number}
@@ -24,6 +24,7 @@ use Rattle.exam_rules.proofs.Entries.{directory_back, entry_in_first, entries_in
 use Rattle.exam_rules.proofs.Stands.{stands-ends, stands-body, stands-exam}
 use Rattle.exam_rules.proofs.Resized.{found-slot, length-resized, length-replaced}
 use Rattle.exam_opening.specs.declared.Part.{Part}
+use Rattle.exam_writing.specs.Inside.{Trails}
 use Rattle.exam_rewriting.specs.Inside.{Behind, resized_bytes, Exchanging, Replacing, rewritten, Rewrites}
 use Rattle.exam_rewriting.proofs.Offsets.{length_moved}
 
@@ -70,16 +71,16 @@ module _ (b blk : List ℕ) (l exam : ℕ) (tr : Trailer) (p : Part) (w : Replac
   -- the slot's entry is among the entries, and tells where the part stands
   slot-below : index_of w.slot file.entries < length file.entries
   unfolding slot_number
-  slot-below = ltb-true _ _ (unless_holds _ _ (sym w.part.number ∙ w.found) (omega arith))
+  slot-below = ltb-true _ _ (unless_holds _ _ (sym w.part.there) (omega arith))
 
   index_below : p.index < tr.entries
   index_below = omega (arith, slot-below, w.part.index, tells-entries (take l b) tr st)
 
   start_is : p.start ≡ its.offset
-  start_is = w.part.offset ∙ afterwards-new _ _ 0 w.found
+  start_is = w.part.offset
 
   old-is : old ≡ its.size
-  old-is = w.part.size ∙ afterwards-new _ _ 0 w.found
+  old-is = w.part.size
 
   part-ends : p.start + old ≤ tr.start
   unfolding entry_of
@@ -205,14 +206,15 @@ module _ (b blk : List ℕ) (l exam : ℕ) (tr : Trailer) (p : Part) (w : Replac
         part-ends,
       ))
 
-  -- the new directory's end, the length that the trailer states, and where the freed bytes start are numbers of their own, so that a wrong one is refused as such
-  pub rewrites : Bytes b → (b1 b2 b3 b4 : List ℕ) (new-end stated freed : ℕ) → b1 ≡ sets b place dir → b2 ≡ sets b1 p.start (blk ++ take (end - from) (drop from b1))
-      → b3 ≡ sets b2 new-end (trailer_bytes tr.edition tr.t exam tr.entries stated) → b4 ≡ sets b3 freed (replicate (l - freed) 0)
-      → new-end ≡ end - old + length blk → stated ≡ end - old + length blk + 32 → freed ≡ end - old + length blk + 32
-      → Rewrites b blk l p.index b4 (end - old + length blk + 32)
-  rewrites bytes b1 b2 b3 b4 new-end stated freed p1 p2 q3 q4 e1 e2 e3 =
-      let p3 = rw (e1, e2) at q3 in
-      let p4 = rw e3 at q4 in
+  -- the length that is answered and where the freed bytes start are numbers of their own, so that a wrong one is refused as such
+  pub rewrites : Bytes b → (b1 b2 b3 b4 : List ℕ) (size freed : ℕ) → b1 ≡ sets b place dir → b2 ≡ sets b1 p.start (blk ++ take (end - from) (drop from b1))
+      → Trails b2 (record { edition = tr.edition; t = tr.t; entries = tr.entries; start = tr.start - old + length blk }) exam b3 size
+      → b4 ≡ sets b3 freed (replicate (l - freed) 0) → freed ≡ size → Rewrites b blk l p.index b4 size
+  rewrites bytes b1 b2 b3 b4 size freed p1 p2 q3 q4 e =
+      let size_is : size ≡ end - old + length blk + 32 = omega (arith, q3.end, part-ends) in
+      let new-end : tr.start - old + length blk + 12 * tr.entries ≡ end - old + length blk = omega (arith, part-ends) in
+      let p3 = rw (size_is, new-end) at q3.bytes in
+      let p4 = rw (e, size_is) at q4 in
       let later = drop from file.body in
       let es = resized its.slot (length blk) file.entries in
       let tra = trailer_bytes tr.edition tr.t exam tr.entries (end - old + length blk + 32) in
@@ -235,7 +237,7 @@ module _ (b blk : List ℕ) (l exam : ℕ) (tr : Trailer) (p : Part) (w : Replac
       makes b1 b3 _ new p.start (blk ++ later) (omega (arith, long, spans, in_buffer, part-ends)) body_is (omega (arith, new-long, long, w.room, spans, part-ends)) x-is put in
       let ends : end - old + length blk + 32 ≡ length (file_bytes new) = sym (length-file new ∙ new-long) in
       record {
-        end = sym new-long;
+        end = size_is ∙ sym new-long;
         bytes =
             wipes b b1 b4 (file_bytes new) l (omega (arith, ends, w.room, spans, part-ends)) in_buffer long
             (rw p1 (kept_above b place dir l (omega (arith, length-dir, spans, index_below))))

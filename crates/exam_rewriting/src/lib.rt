@@ -15,13 +15,10 @@ fn move_offsets(file: &mut [u8], at: usize, n: usize, old: usize, new: usize)
     requires { Behind file.old at n old new }
     ensures { file.new ≡ sets file.old at (moved_bytes file.old at n old new) }
 {
-    let mut place = at;
-    let mut i = 0;
-    while i < n {
+    for i in 0..n {
+        let place = at + 12 * i;
         let offset = words::get_bytes(&file[..], place + 4, 4);
         words::put_bytes(file, place + 4, 4, offset + new as u64 - old as u64);
-        place += 12;
-        i += 1;
     }
 }
 
@@ -59,25 +56,17 @@ pub fn replace_block(
     requires { Replacing file.old block.now length exam trailer part }
     ensures { Rewrites file.old block.now length part.index file.new result }
 {
-    let start = part.start;
-    let old = part.end - start;
+    let old = part.end - part.start;
     let new = block.len();
     let n = trailer.entries;
     let place = trailer.start + 12 * part.index;
     resize(file, place, n - part.index - 1, old, new);
-    let end = trailer.start + 12 * n;
-    exchange(file, block, start, old, end);
-    let new_end = end - old + new;
-    let new_length = new_end + 32;
-    exam_writing::put_trailer(
-        file,
-        new_end,
-        trailer.edition,
-        trailer.t,
-        exam,
-        n,
-        new_length,
-    );
+    exchange(file, block, part.start, old, trailer.start + 12 * n);
+    let new_trailer = Trailer {
+        start: trailer.start - old + new,
+        ..trailer
+    };
+    let new_length = exam_writing::put_trailer(file, new_trailer, exam);
     moves::wipe(file, new_length, length);
     new_length
 }

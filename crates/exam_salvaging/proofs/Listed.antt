@@ -5,7 +5,7 @@ use Prim.Native.Nat.{ℕ, ◌+◌, ◌-◌, ◌*◌, ◌≤◌, ◌<◌}
 use native.Mathlib.Omega.{arith}
 use lib.ListN.{length, take, drop, length-drop}
 use lib.Seq.{sets, length-sets, drop-drop, length-take-le}
-use Rattle.words.specs.Bytes.{field}
+use Rattle.words.specs.Bytes.{number, field}
 use Rattle.words.proofs.Stores.{sets-append}
 use Rattle.words.proofs.Tests.{either}
 use Rattle.block_rules.specs.Block.{stated_length}
@@ -15,26 +15,26 @@ use Rattle.exam_rules.specs.Salvage.{block_stands, whole_blocks, numbered}
 use Rattle.exam_rules.proofs.Lengths.{length-entry}
 use Rattle.exam_rules.proofs.Salvage.{StandsWhole, stands-whole, whole-stands, stands-long, blocks-few}
 use Rattle.exam_salvaging.specs.Inside.{Listing}
-use Rattle.exam_salvaging.proofs.Standing.{states_at, next-block, no_next_block}
+use Rattle.exam_salvaging.proofs.Standing.{next-block, no_next_block}
 
 -- the bytes of the entries from a slot and a place on
 abbrev entries_from : List ℕ → ℕ → ℕ → List ℕ
 entries_from old i offset = directory_bytes (entries_of offset (numbered i (whole_blocks (1024 - i) (drop offset old))))
 
 -- i entries are written, and with the rest they are all
-pub record Listed (file₀ old : List ℕ) (at n : ℕ) (file : List ℕ) (offset place i : ℕ) : Type 0 where
+pub record Listed (file₀ old : List ℕ) (at n : ℕ) (file : List ℕ) (offset i : ℕ) : Type 0 where
   pub upto : i ≤ n
   pub few : n ≤ 1024
-  pub place_is : place ≡ at + 12 * i
   pub long : length file ≡ length file₀
   pub left : length (whole_blocks (1024 - i) (drop offset old)) + i ≡ n
-  pub same : sets file place (entries_from old i offset) ≡ sets file₀ at (entries_from old 0 0)
+  pub same : sets file (at + 12 * i) (entries_from old i offset) ≡ sets file₀ at (entries_from old 0 0)
 
-pub list_starts : (file old : List ℕ) (at n : ℕ) → Listing file old at n → Listed file old at n file 0 at 0
+pub list_starts : (file old : List ℕ) (at n : ℕ) → Listing file old at n → Listed file old at n file 0 0
 list_starts file old at n h =
-    record { upto = omega arith; few = omega (arith, h.many, blocks-few 1024 old); place_is = omega arith; long = refl; left = omega (arith, h.many); same = refl }
+    let at-0 : at + 12 * 0 ≡ at = omega arith in
+    record { upto = omega arith; few = omega (arith, h.many, blocks-few 1024 old); long = refl; left = omega (arith, h.many); same = ap (λ (k : ℕ). sets file k (entries_from old 0 0)) at-0 }
 
-module _ (file₀ old : List ℕ) (at n : ℕ) (file : List ℕ) (offset place i : ℕ) (h : i < n) (g : Listed file₀ old at n file offset place i) where
+module _ (file₀ old : List ℕ) (at n : ℕ) (file : List ℕ) (offset i : ℕ) (h : i < n) (g : Listed file₀ old at n file offset i) where
   -- while entries are left, a block stands
   list_stands : StandsWhole (drop offset old)
   list_stands =
@@ -46,13 +46,15 @@ module _ (file₀ old : List ℕ) (at n : ℕ) (file : List ℕ) (offset place i
 
   module _ (size : ℕ) (e : size ≡ field 4 (offset + 4) old) where
     is : size ≡ stated_length (drop offset old)
-    is = e ∙ states_at old offset
+    is = e ∙ ap (λ (x : List ℕ). number (take 4 x)) (sym (drop-drop 4 offset old))
 
     pub list_within : offset + size ≤ length old
     list_within = omega (arith, is, list_stands.within, length-drop offset old, list_room)
 
-    pub list_on : (file' : List ℕ) → file' ≡ sets file place (entry_bytes (entry i offset size)) → Listed file₀ old at n file' (offset + size) (place + 12) (i + 1)
+    pub list_on : (file' : List ℕ) → file' ≡ sets file (at + 12 * i) (entry_bytes (entry i offset size)) → Listed file₀ old at n file' (offset + size) (i + 1)
     list_on file' q =
+        let place = at + 12 * i in
+        let next-place : at + 12 * (i + 1) ≡ place + length (entry_bytes (entry i offset size)) = omega (arith, length-entry (entry i offset size)) in
         let bs = drop offset old in
         let x = take (stated_length bs) bs in
         let lx : length x ≡ size = length-take-le _ bs list_stands.within ∙ sym is in
@@ -63,19 +65,17 @@ module _ (file₀ old : List ℕ) (at n : ℕ) (file : List ℕ) (offset place i
         record {
           upto = omega arith;
           few = g.few;
-          place_is = omega (arith, g.place_is);
           long = ap length q ∙ length-sets file place ent ∙ g.long;
           left = omega (arith, g.left, ap length next);
-          same = rw q
-              (ap (λ (k : ℕ). sets (sets file place ent) (place + k) rest) (sym (length-entry (entry i offset size)))
-              ∙ sym (sets-append file place ent rest)
+          same = rw (q, next-place)
+              (sym (sets-append file place ent rest)
               ∙ sym (ap (λ (l : List (List ℕ)). sets file place (directory_bytes (entries_of offset (numbered i l)))) next ∙ rw lx refl)
               ∙ g.same);
         }
 
-pub list_ends : (file₀ old : List ℕ) (at n : ℕ) (file : List ℕ) (offset place i : ℕ) → n ≤ i → Listed file₀ old at n file offset place i → file ≡ sets file₀ at (entries_from old 0 0)
-list_ends file₀ old at n file offset place i h g = finish (whole_blocks (1024 - i) (drop offset old)) g.left g.same
+pub list_ends : (file₀ old : List ℕ) (at n : ℕ) (file : List ℕ) (offset i : ℕ) → n ≤ i → Listed file₀ old at n file offset i → file ≡ sets file₀ at (entries_from old 0 0)
+list_ends file₀ old at n file offset i h g = finish (whole_blocks (1024 - i) (drop offset old)) g.left g.same
   where
-    finish : (bs : List (List ℕ)) → length bs + i ≡ n → sets file place (directory_bytes (entries_of offset (numbered i bs))) ≡ sets file₀ at (entries_from old 0 0) → file ≡ sets file₀ at (entries_from old 0 0)
+    finish : (bs : List (List ℕ)) → length bs + i ≡ n → sets file (at + 12 * i) (directory_bytes (entries_of offset (numbered i bs))) ≡ sets file₀ at (entries_from old 0 0) → file ≡ sets file₀ at (entries_from old 0 0)
     finish [] e q = q
     finish (b ∷ bs) e q = absurd (omega arith)

@@ -15,6 +15,7 @@ use Rattle.exam_rules.specs.Calls.{salvaged, salvages_number, Salvages}
 use Rattle.exam_rules.proofs.Lengths.{length-directory, length-file}
 use Rattle.exam_rules.proofs.Accept.{salvage_takes}
 use Rattle.exam_rules.proofs.Salvage.{blocks-few, blocks-within, salvaged-many, salvaged-first}
+use Rattle.exam_writing.specs.Inside.{Trails}
 use Rattle.exam_salvaging.specs.Inside.{FoundIn, new_length, Rebuilding, Rebuilds}
 use Rattle.exam_salvaging.specs.declared.Found.{Found}
 
@@ -42,23 +43,24 @@ module _ (old : List ℕ) (s : Found) (f : FoundIn old s) (exam t : ℕ) where
   pub found_number : (b : List ℕ) (n : ℕ) → n ≡ salvage_number exam t (new_length s.kept s.end) (length b) → n ≡ salvages_number old b exam t
   found_number b n e = e ∙ ap (λ (l : ℕ). salvage_number exam t l (length b)) found-length
 
-  pub rebuilding : (b : List ℕ) (n : ℕ) → n ≡ salvage_number exam t (new_length s.kept s.end) (length b) → n ≡ 0 → Rebuilding b old s
-  rebuilding b n e z = record { found = f; room = (salvage_takes exam t _ (length b) (sym e ∙ z)).buffer_room }
+  pub rebuilding : (b : List ℕ) → salvage_number exam t (new_length s.kept s.end) (length b) ≡ 0 → Rebuilding b old s
+  rebuilding b z = record { found = f; room = (salvage_takes exam t _ (length b) z).buffer_room }
 
   pub rebuilt : (b b1 b2 b3 : List ℕ) → new_length s.kept s.end ≤ length b → b1 ≡ sets b 0 (take s.end old)
       → b2 ≡ sets b1 s.end (directory_bytes (entries_of 0 (numbered 0 (whole_blocks 1024 old))))
-      → b3 ≡ sets b2 (s.end + 12 * s.kept) (trailer_bytes 1 t exam s.kept (new_length s.kept s.end))
-      → Rebuilds b old exam t b3 (new_length s.kept s.end)
+      → (l : ℕ) → Trails b2 (record { edition = 1; t = t; entries = s.kept; start = s.end }) exam b3 l
+      → Rebuilds b old exam t b3 l
   unfolding salvaged_file file_bytes
-  rebuilt b b1 b2 b3 room p1 p2 p3 =
+  rebuilt b b1 b2 b3 room p1 p2 l p3 =
+      let long : l ≡ file_length file = p3.end ∙ found-length in
       let body : take s.end old ≡ file.body = rw found-end (salvaged-first old exam t) in
       let dir = directory_bytes file.entries in
       let q2 : b2 ≡ sets b 0 (file.body ++ dir) = join b b1 b2 file.body dir 0 s.end (rw body at p1) p2 (omega (arith, found-end)) in
-      let trail : trailer_bytes 1 t exam s.kept (new_length s.kept s.end) ≡ trailer_bytes 1 t exam (length file.entries) (file_length file) = rw (found-kept, found-end) in
+      let trail : trailer_bytes 1 t exam s.kept l ≡ trailer_bytes 1 t exam (length file.entries) (file_length file) = rw (found-kept, long) in
       let q3 =
-      join b b2 b3 (file.body ++ dir) (trailer_bytes 1 t exam (length file.entries) (file_length file)) 0 (s.end + 12 * s.kept) q2 (rw trail at p3)
+      join b b2 b3 (file.body ++ dir) (trailer_bytes 1 t exam (length file.entries) (file_length file)) 0 (s.end + 12 * s.kept) q2 (rw trail at p3.bytes)
       (omega (arith, length-append file.body dir, length-directory file.entries, found-kept, found-end)) in
-      record { end = found-length; bytes = q3 ∙ sets_over (file_bytes file) b (omega (arith, length-file file, found-length)) }
+      record { end = long; bytes = q3 ∙ sets_over (file_bytes file) b (omega (arith, length-file file, found-length)) }
 
 pub salvage_refused : (old b : List ℕ) (exam t n : ℕ) → n ≡ salvages_number old b exam t → (n ≡ 0 → ⊥)
     → Salvages old b exam t (record { number = n; length = 0; kept = 0; left_over = 0; renumbered = 0 }) b

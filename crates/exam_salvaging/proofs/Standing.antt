@@ -8,60 +8,63 @@ use lib.Dec.{leb}
 use lib.ListN.{length, take, drop, length-append, length-drop}
 use lib.Seq.{drop-drop, length-take-le}
 use borrow.Author.Tests.{leb-true, leb-false}
-use Rattle.words.specs.Bytes.{number, field}
 use Rattle.words.proofs.Tests.{either}
 use Rattle.block_rules.specs.Block.{stated_length}
 use Rattle.block_rules.specs.Numbers.{block_number}
 use Rattle.exam_rules.specs.Pieces.{blocks_of}
 use Rattle.exam_rules.specs.Salvage.{block_stands, whole_blocks, numbered}
 use Rattle.exam_rules.proofs.Salvage.{StandsWhole, stands-whole, whole-stands, stands-long}
+use Rattle.std.specs.Result.{is_err}
+use Rattle.std.proofs.Common.{None, Some, Result, Ok, Err}
+use Rattle.answers.specs.Refusals.{number_told}
+use Rattle.answers.specs.declared.Refusal.{Refusal}
+use Rattle.answers.proofs.Told.{refuses}
+use Rattle.block_rules.specs.Calls.{checked, checked_told, Checked}
+use Rattle.block_rules.proofs.Accept.{checks-number}
 use Rattle.exam_salvaging.specs.Inside.{standing_size, FoundIn}
 
 -- ---- the size of a block that stands at a place
 
--- the length that is stated there
-pub states_at : (old : List ℕ) (at : ℕ) → field 4 (at + 4) old ≡ stated_length (drop at old)
-states_at old at = ap (λ (x : List ℕ). number (take 4 x)) (sym (drop-drop 4 at old))
-
-falls : (bs : List ℕ) → (StandsWhole bs → ⊥) → 0 ≡ standing_size bs
+falls : (bs : List ℕ) → (StandsWhole bs → ⊥) → None ≡ standing_size bs
 unfolding standing_size
 falls bs h = either (block_stands bs) (λ q. absurd (h (stands-whole bs q))) (λ q. rw q)
 
-pub too_few_left : (old : List ℕ) (at : ℕ) → length old - at < 8 → 0 ≡ standing_size (drop at old)
-too_few_left old at h = falls (drop at old) (λ s. omega (arith, s.within, stands-long (drop at old) s, length-drop at old))
+pub too_few : (bs : List ℕ) → length bs < 8 → None ≡ standing_size bs
+too_few bs h = falls bs (λ s. omega (arith, s.within, stands-long bs s))
 
-pub beyond-end : (old : List ℕ) (at size : ℕ) → size ≡ field 4 (at + 4) old → length old - at < size → 0 ≡ standing_size (drop at old)
-beyond-end old at size e h = falls (drop at old) (λ s. omega (arith, s.within, length-drop at old, states_at old at))
+pub beyond-end : (bs : List ℕ) (size : ℕ) → size ≡ stated_length bs → length bs < size → None ≡ standing_size bs
+beyond-end bs size e h = falls bs (λ s. omega (arith, s.within))
 
--- the number of the part of that length
-part-number : (old : List ℕ) (at size k : ℕ) → size ≡ field 4 (at + 4) old → k ≡ block_number (take (at + size - at) (drop at old))
-    → k ≡ block_number (take (stated_length (drop at old)) (drop at old))
-part-number old at size k e q =
-    let is : at + size - at ≡ stated_length (drop at old) = omega (arith, e, states_at old at) in
-    rw is at q
+-- what check answers for a block tells its number
+pub check_tells : (b : List ℕ) (r : Result ℕ Refusal) → checked_told r ≡ checked b → number_told r ≡ block_number b
+check_tells b r e = ap (λ (x : Checked). x.number) e ∙ checks-number b
 
-pub not_whole : (old : List ℕ) (at size k : ℕ) → size ≡ field 4 (at + 4) old → k ≡ block_number (take (at + size - at) (drop at old)) → (k ≡ 0 → ⊥)
-    → 0 ≡ standing_size (drop at old)
-not_whole old at size k e q h = falls (drop at old) (λ s. h (part-number old at size k e q ∙ s.checks))
+pub check_fails : (b : List ℕ) (r : Result ℕ Refusal) → checked_told r ≡ checked b → true ≡ is_err r → block_number b ≡ 0 → ⊥
+check_fails b (Ok n) e h z = cc
+check_fails b (Err x) e h z = refuses x (check_tells b (Err x) e ∙ z)
 
-pub is_whole : (old : List ℕ) (at size k : ℕ) → size ≡ field 4 (at + 4) old → size ≤ length old - at → k ≡ block_number (take (at + size - at) (drop at old)) → k ≡ 0
-    → size ≡ standing_size (drop at old)
+pub check_passes : (b : List ℕ) (r : Result ℕ Refusal) → checked_told r ≡ checked b → false ≡ is_err r → block_number b ≡ 0
+check_passes b (Ok n) e h = sym (check_tells b (Ok n) e)
+check_passes b (Err x) e h = cc
+
+pub not_whole : (bs : List ℕ) (size : ℕ) → size ≡ stated_length bs → (block_number (take size bs) ≡ 0 → ⊥) → None ≡ standing_size bs
+not_whole bs size e h = falls bs (λ s. h (rw e s.checks))
+
+pub is_whole : (bs : List ℕ) (size : ℕ) → size ≡ stated_length bs → size ≤ length bs → block_number (take size bs) ≡ 0 → Some size ≡ standing_size bs
 unfolding standing_size
-is_whole old at size k e within q z =
-    let is = e ∙ states_at old at in
-    let stands = whole-stands (drop at old) (record { within = omega (arith, is, length-drop at old); checks = sym (part-number old at size k e q) ∙ z }) in
-    rw stands is
+is_whole bs size e within z =
+    let stands = whole-stands bs (record { within = omega (arith, e); checks = rw e at z }) in
+    rw (stands, e)
 
 -- what a size tells
-size-tells : (bs : List ℕ) (size : ℕ) → size ≡ standing_size bs → (size ≡ 0 → ⊥) → StandsWhole bs × (size ≡ stated_length bs)
+size-tells : (bs : List ℕ) (size : ℕ) → Some size ≡ standing_size bs → StandsWhole bs × (size ≡ stated_length bs)
 unfolding standing_size
 size-tells bs size =
-    either (block_stands bs) (λ q. rw q (λ e h. (stands-whole bs q, e))) (λ q. rw q (λ e h. absurd (h e)))
+    either (block_stands bs) (λ q. rw q (λ e. (stands-whole bs q, cc))) (λ q. rw q (λ e. cc))
 
-no_size_tells : (bs : List ℕ) (size : ℕ) → size ≡ standing_size bs → size ≡ 0 → block_stands bs ≡ false
+no_size_tells : (bs : List ℕ) → None ≡ standing_size bs → block_stands bs ≡ false
 unfolding standing_size
-no_size_tells bs size =
-    either (block_stands bs) (λ q. rw q (λ e z. absurd (omega (arith, e, z, stands-long bs (stands-whole bs q))))) (λ q. rw q (λ e z. refl))
+no_size_tells bs = either (block_stands bs) (λ q. rw q (λ e. cc)) (λ q. rw q (λ e. refl))
 
 -- ---- the blocks from a place on, where k were found before
 
@@ -96,15 +99,15 @@ pub record Walking (old : List ℕ) (k end : ℕ) : Type 0 where
 pub walk-starts : (old : List ℕ) → Walking old 0 0
 walk-starts old = record { upto = omega arith; within = omega arith; many = omega arith; far = omega arith }
 
-module _ (old : List ℕ) (k end size : ℕ) (w : Walking old k end) (s : size ≡ standing_size (drop end old)) where
-  pub walk-within : (size ≡ 0 → ⊥) → end + size ≤ length old
-  walk-within h =
-      let t = size-tells (drop end old) size s h in
+module _ (old : List ℕ) (k end size : ℕ) (w : Walking old k end) (s : Some size ≡ standing_size (drop end old)) where
+  pub walk-within : end + size ≤ length old
+  walk-within =
+      let t = size-tells (drop end old) size s in
       omega (arith, t.0.within, t.1, length-drop end old, w.within)
 
-  pub walk_on : k < 1024 → (size ≡ 0 → ⊥) → Walking old (k + 1) (end + size)
-  walk_on few h =
-      let t = size-tells (drop end old) size s h in
+  pub walk_on : k < 1024 → Walking old (k + 1) (end + size)
+  walk_on few =
+      let t = size-tells (drop end old) size s in
       let x = take (stated_length (drop end old)) (drop end old) in
       let lx : length x ≡ size = length-take-le _ (drop end old) t.0.within ∙ sym t.1 in
       let behind : drop (stated_length (drop end old)) (drop end old) ≡ drop (end + size) old = rw (← t.1) (drop-drop size end old) in
@@ -112,7 +115,7 @@ module _ (old : List ℕ) (k end size : ℕ) (w : Walking old k end) (s : size �
       let rest = whole_blocks (1024 - (k + 1)) (drop (end + size) old) in
       record {
         upto = omega arith;
-        within = walk-within h;
+        within = walk-within;
         many = omega (arith, w.many, ap length next);
         far = omega (arith, w.far, ap (λ (l : List (List ℕ)). length (blocks_of (numbered k l))) next, length-append x (blocks_of (numbered (k + 1) rest)), lx);
       }
@@ -125,7 +128,7 @@ walk-found old k end w none =
 pub walk_ends : (old : List ℕ) (k end : ℕ) → 1024 ≤ k → Walking old k end → FoundIn old (record { kept = k; end = end })
 walk_ends old k end h w = walk-found old k end w (no_more_blocks (drop end old) k h)
 
-pub walk-stops : (old : List ℕ) (k end size : ℕ) → Walking old k end → size ≡ standing_size (drop end old) → size ≡ 0 → FoundIn old (record { kept = k; end = end })
-walk-stops old k end size w s z =
+pub walk-stops : (old : List ℕ) (k end : ℕ) → Walking old k end → None ≡ standing_size (drop end old) → FoundIn old (record { kept = k; end = end })
+walk-stops old k end w s =
     either (leb 1024 k) (λ q. walk_ends old k end (leb-true 1024 k q) w)
-    (λ q. walk-found old k end w (no_next_block (drop end old) k (leb-false 1024 k q) (no_size_tells (drop end old) size s z)))
+    (λ q. walk-found old k end w (no_next_block (drop end old) k (leb-false 1024 k q) (no_size_tells (drop end old) s)))

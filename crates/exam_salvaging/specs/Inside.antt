@@ -1,5 +1,5 @@
 -- What the inner functions require and ensure. No promise of a call is stated here.
-use Rattle.std.specs.Prelude.{◌≡◌, ℕ, ◌+◌, ◌*◌, ◌≤◌, List, cond, length}
+use Rattle.std.specs.Prelude.{◌≡◌, ℕ, ◌+◌, ◌*◌, ◌≤◌, List, cond, length, Option, None, Some}
 use Rattle.answers.specs.Answers.{over}
 use Rattle.block_rules.specs.Block.{stated_length}
 use Rattle.exam_rules.specs.File.{file_length, file_bytes}
@@ -7,9 +7,9 @@ use Rattle.exam_rules.specs.Pieces.{blocks_of}
 use Rattle.exam_rules.specs.Salvage.{block_stands, whole_blocks, numbered, salvaged_file}
 use Rattle.exam_salvaging.specs.declared.Found.{Found}
 
--- the size of the block that stands at the start of bytes, or 0
-unfoldable pub standing_size : List ℕ → ℕ
-standing_size bs = cond (block_stands bs) (stated_length bs) 0
+-- the size of the block that stands at the start of bytes, where one does
+unfoldable pub standing_size : List ℕ → Option ℕ
+standing_size bs = cond (block_stands bs) (Some (stated_length bs)) None
 
 -- the whole blocks at the start of old bytes: how many, and where the last ends
 pub record FoundIn (old : List ℕ) (s : Found) : Type 0 where

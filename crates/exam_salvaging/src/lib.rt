@@ -4,14 +4,16 @@
 
 ghost use Rattle.std.specs.Prelude.{◌≡◌, ◌≤◌, length, drop};
 ghost use Rattle.std.proofs.lemmas.List.Edits.{sets};
+ghost use Rattle.answers.specs.Refusals.{number_told};
 ghost use Rattle.exam_rules.specs.File.{directory_bytes};
 ghost use Rattle.exam_rules.specs.Pieces.{entries_of};
 ghost use Rattle.exam_rules.specs.Salvage.{whole_blocks, numbered};
 ghost use Rattle.exam_rules.specs.Numbers.{salvage_number};
-ghost use Rattle.exam_rules.specs.Calls.{Salvages};
+ghost use Rattle.exam_rules.specs.Calls.{salvaged_told, Salvages};
 ghost use Rattle.exam_salvaging.specs.Inside.{standing_size, FoundIn, new_length, Listing, Rebuilding, Rebuilds};
 
-use exam_rules::Salvaged;
+use answers::Refusal;
+use exam_rules::{SalvagedFile, Trailer};
 
 // The blocks that stand whole at the start of bytes: how many they are, and where the last one ends.
 #[derive(Clone, Copy)]
@@ -20,66 +22,61 @@ pub struct Found {
     pub end: usize,
 }
 
-// The size of the block that stands whole at a place, or 0 where none does.
-fn standing_size(old: &[u8], at: usize) -> usize
-    requires { at ≤ length old.now }
-    ensures { result ≡ standing_size (drop at old.now) }
+// The size of the block that stands whole at the start of bytes, where one does.
+fn standing_size(bytes: &[u8]) -> Option<usize>
+    ensures { result ≡ standing_size bytes.now }
 {
-    let left = old.len() - at;
-    if left < 8 {
-        return 0;
+    if bytes.len() < 8 {
+        return None;
     }
-    let size = words::get_bytes(old, at + 4, 4) as usize;
-    if left < size {
-        return 0;
+    let size = words::get_bytes(bytes, 4, 4) as usize;
+    if bytes.len() < size {
+        return None;
     }
-    let end = at + size;
-    if block_checking::block_number(&old[at..end]) != 0 {
-        return 0;
+    if block_checking::check(&bytes[..size]).is_err() {
+        return None;
     }
-    size
+    Some(size)
 }
 
 // Takes blocks from the start on while one stands whole, up to 1,024.
 fn find_blocks(old: &[u8]) -> Found
     ensures { FoundIn old.now result }
 {
-    let mut kept = 0;
     let mut end = 0;
-    while kept < 1024 {
-        let size = standing_size(old, end);
-        if size == 0 {
+    for kept in 0..1024 {
+        let Some(size) = standing_size(&old[end..]) else {
             return Found { kept, end };
-        }
+        };
         end += size;
-        kept += 1;
     }
-    Found { kept, end }
+    Found { kept: 1024, end }
 }
 
-// The number that salvaging answers. The new length is not added up before its largest part is known
+// Whether salvaging is refused, and why. The new length is not added up before its largest part is known
 // to be small, since old bytes may be of any length.
-fn salvage_number(exam: u64, t: u32, kept: usize, end: usize, room: usize) -> u32
-    requires { kept ≤ 1024 }
-    ensures { result ≡ salvage_number exam t (new_length kept end) room }
+#[tactic(auto, using(std::proofs::lemmas::Bool::Decides::nat_tests), unfolding(exam_rules::specs::Numbers::salvage_number, answers::specs::Answers::unless, answers::specs::Answers::first_failure))]
+fn check_salvage(exam: u64, t: u32, found: Found, room: usize) -> Result<(), Refusal>
+    requires { found.kept ≤ 1024 }
+    ensures { number_told result ≡ salvage_number exam t (new_length found.kept found.end) room }
 {
     if exam == 0 {
-        return 8;
+        return Err(Refusal::ExamNumber);
     }
     if 16 < t {
-        return 7;
+        return Err(Refusal::Trailer);
     }
-    if 16777216 < end {
-        return 3;
+    if 16777216 < found.end {
+        return Err(Refusal::NoRoom);
     }
-    let length = end + 12 * kept + 32;
+    let length = found.end + 12 * found.kept + 32;
     if 16777216 < length {
-        return 3;
+        return Err(Refusal::NoRoom);
     }
     if room < length {
-        return 3;
+        return Err(Refusal::NoRoom);
     }
-    0
+    Ok(())
 }
 
 // Writes the entries of n blocks at a place: slots from 0 up, and for each block where it starts and the
@@ -89,14 +86,10 @@ fn put_entries(file: &mut [u8], old: &[u8], at: usize, n: usize)
     ensures { file.new ≡ sets file.old at (directory_bytes (entries_of 0 (numbered 0 (whole_blocks 1024 old.now)))) }
 {
     let mut offset = 0;
-    let mut place = at;
-    let mut i = 0;
-    while i < n {
+    for i in 0..n {
         let size = words::get_bytes(old, offset + 4, 4) as usize;
-        exam_writing::put_entry(file, place, i as u32, offset, size);
+        exam_writing::put_entry(file, at + 12 * i, i as u32, offset, size);
         offset += size;
-        place += 12;
-        i += 1;
     }
 }
 
@@ -106,39 +99,29 @@ fn rebuild(file: &mut [u8], old: &[u8], found: Found, exam: u64, t: u32) -> usiz
     ensures { Rebuilds file.old old.now exam t file.new result }
 {
     let end = found.end;
-    let kept = found.kept;
     words::copy_in(file, 0, &old[..end]);
-    put_entries(file, old, end, kept);
-    let directory_end = end + 12 * kept;
-    let length = directory_end + 32;
-    exam_writing::put_trailer(file, directory_end, 1, t as usize, exam, kept, length);
-    length
+    put_entries(file, old, end, found.kept);
+    let trailer = Trailer {
+        edition: 1,
+        t: t as usize,
+        entries: found.kept,
+        start: end,
+    };
+    exam_writing::put_trailer(file, trailer, exam)
 }
 
 // Makes a new file of the blocks that stand whole at the start of old bytes. The old slot numbers are
 // lost with the directory, so the slots are numbered from 0.
-pub fn salvage(old: &[u8], file: &mut [u8], exam: u64, t: u32) -> Salvaged
-    ensures { Salvages old.now file.old exam t result file.new }
+pub fn salvage(old: &[u8], file: &mut [u8], exam: u64, t: u32) -> Result<SalvagedFile, Refusal>
+    ensures { Salvages old.now file.old exam t (salvaged_told result) file.new }
 {
     let found = find_blocks(old);
-    let kept = found.kept;
-    let end = found.end;
-    let number = salvage_number(exam, t, kept, end, file.len());
-    if number != 0 {
-        return Salvaged {
-            number,
-            length: 0,
-            kept: 0,
-            left_over: 0,
-            renumbered: 0,
-        };
-    }
+    check_salvage(exam, t, found, file.len())?;
     let length = rebuild(file, old, found, exam, t);
-    Salvaged {
-        number: 0,
+    Ok(SalvagedFile {
         length,
-        kept,
-        left_over: old.len() - end,
-        renumbered: 1,
-    }
+        kept: found.kept,
+        left_over: old.len() - found.end,
+        renumbered: true,
+    })
 }

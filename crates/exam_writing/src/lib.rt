@@ -1,70 +1,65 @@
 // Writing a file: an empty one, or one with a block more.
 #![tactic(auto)]
 
-ghost use Rattle.std.specs.Prelude.{◌≡◌, ◌+◌, ◌≤◌};
+ghost use Rattle.std.specs.Prelude.{◌≡◌, ◌+◌, ◌*◌, ◌≤◌};
 ghost use lib.ListN.{length};
 ghost use Rattle.std.proofs.lemmas.List.Edits.{sets};
-ghost use Rattle.exam_rules.specs.File.{entry, entry_bytes, trailer_bytes};
+ghost use Rattle.answers.specs.Refusals.{number_told};
+ghost use Rattle.exam_rules.specs.File.{entry, entry_bytes};
 ghost use Rattle.exam_rules.specs.Numbers.{create_number};
-ghost use Rattle.exam_rules.specs.Calls.{Creates};
-ghost use Rattle.exam_writing.specs.Inside.{Adding, Adds};
+ghost use Rattle.exam_rules.specs.Calls.{made_told, Creates};
+ghost use Rattle.exam_writing.specs.Inside.{Trails, Adding, Adds};
 
-use exam_rules::Made;
+use answers::Refusal;
+use exam_rules::Trailer;
 
-// Writes a trailer of 32 bytes at a place.
-pub fn put_trailer(
-    out: &mut [u8],
-    at: usize,
-    edition: usize,
-    t: usize,
-    exam: u64,
-    entries: usize,
-    length: usize,
-)
-    requires { (at + 32 ≤ lib.ListN.length out.old) × (entries ≤ 1024) }
-    ensures { out.new ≡ sets out.old at (trailer_bytes edition t exam entries length) }
+// Writes the trailer of a file, for an exam, behind its directory. Answers the file's length.
+pub fn put_trailer(out: &mut [u8], trailer: Trailer, exam: u64) -> usize
+    requires { (trailer.start + 12 * trailer.entries + 32 ≤ length out.old) × (trailer.entries ≤ 1024) }
+    ensures { Trails out.old trailer exam out.new result }
 {
+    let distance = 12 * trailer.entries + 32;
+    let length = trailer.start + distance;
+    let at = length - 32;
     words::copy_in(out, at, b"coil");
-    words::put_bytes(out, at + 4, 2, edition as u64);
-    words::put_bytes(out, at + 6, 2, t as u64);
+    words::put_bytes(out, at + 4, 2, trailer.edition as u64);
+    words::put_bytes(out, at + 6, 2, trailer.t as u64);
     words::put_bytes(out, at + 8, 8, exam);
-    words::put_bytes(out, at + 16, 4, (32 + 12 * entries) as u64);
-    words::put_bytes(out, at + 20, 4, entries as u64);
+    words::put_bytes(out, at + 16, 4, distance as u64);
+    words::put_bytes(out, at + 20, 4, trailer.entries as u64);
     words::put_bytes(out, at + 24, 8, length as u64);
+    length
 }
 
-// The number that creating answers.
-fn create_number(exam: u64, t: u32, room: usize) -> u32
-    ensures { result ≡ create_number exam t room }
+// Whether creating is refused, and why.
+#[tactic(auto, using(std::proofs::lemmas::Bool::Decides::nat_tests), unfolding(exam_rules::specs::Numbers::create_number, answers::specs::Answers::unless, answers::specs::Answers::first_failure))]
+fn check_create(exam: u64, t: u32, room: usize) -> Result<(), Refusal>
+    ensures { number_told result ≡ create_number exam t room }
 {
     if exam == 0 {
-        return 8;
+        return Err(Refusal::ExamNumber);
     }
     if 16 < t {
-        return 7;
+        return Err(Refusal::Trailer);
     }
     if room < 32 {
-        return 3;
+        return Err(Refusal::NoRoom);
     }
-    0
+    Ok(())
 }
 
-// Creates an empty file for an exam at the start of a buffer.
-pub fn create(file: &mut [u8], exam: u64, t: u32) -> Made
-    ensures { Creates file.old exam t result file.new }
+// Creates an empty file for an exam at the start of a buffer. Answers its length.
+pub fn create(file: &mut [u8], exam: u64, t: u32) -> Result<usize, Refusal>
+    ensures { Creates file.old exam t (made_told result) file.new }
 {
-    let refusal = create_number(exam, t, file.len());
-    if refusal != 0 {
-        return Made {
-            number: refusal,
-            length: 0,
-        };
-    }
-    put_trailer(file, 0, 1, t as usize, exam, 0, 32);
-    Made {
-        number: 0,
-        length: 32,
-    }
+    check_create(exam, t, file.len())?;
+    let trailer = Trailer {
+        edition: 1,
+        t: t as usize,
+        entries: 0,
+        start: 0,
+    };
+    Ok(put_trailer(file, trailer, exam))
 }
 
 // Writes a directory entry of 12 bytes at a place.
@@ -77,28 +72,23 @@ pub fn put_entry(out: &mut [u8], at: usize, slot: u32, offset: usize, size: usiz
     words::put_bytes(out, at + 8, 4, size as u64);
 }
 
-// Puts a block at the directory's old start, moves the directory up behind it, and adds an entry and
-// the new trailer. Answers the new length.
-pub fn add_block(
-    file: &mut [u8],
-    block: &[u8],
-    start: usize,
-    n: usize,
-    slot: u32,
-    edition: usize,
-    t: usize,
-    exam: u64,
-) -> usize
-    requires { Adding file.old block.now start n }
-    ensures { Adds file.old block.now start n slot edition t exam file.new result }
+// Puts a block at the old start of the directory of the file with this trailer, moves the directory up
+// behind it, and adds an entry and the new trailer. Answers the new length.
+pub fn add_block(file: &mut [u8], block: &[u8], trailer: Trailer, slot: u32, exam: u64) -> usize
+    requires { Adding file.old block.now trailer }
+    ensures { Adds file.old block.now trailer slot exam file.new result }
 {
+    let start = trailer.start;
     let size = block.len();
     let moved = start + size;
-    let end = moved + 12 * n;
-    let length = end + 44;
-    words::move_up(file, start, moved, 12 * n);
+    let directory = 12 * trailer.entries;
+    words::move_up(file, start, moved, directory);
     words::copy_in(file, start, block);
-    put_entry(file, end, slot, start, size);
-    put_trailer(file, end + 12, edition, t, exam, n + 1, length);
-    length
+    put_entry(file, moved + directory, slot, start, size);
+    let new_trailer = Trailer {
+        entries: trailer.entries + 1,
+        start: moved,
+        ..trailer
+    };
+    put_trailer(file, new_trailer, exam)
 }

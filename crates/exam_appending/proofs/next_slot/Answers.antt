@@ -1,11 +1,19 @@
-use Prim.Native.Nat.{◌+◌, ◌-◌, ◌*◌}
+use mathlib.Core.Path.{sym, ◌∙◌}
 use native.Mathlib.Omega.{arith}
-use Rattle.words.proofs.Bytes.{field_below}
-use Rattle.exam_appending.proofs.Appending.{next_of}
+use Rattle.exam_appending.proofs.Appending.{last_small, next_of, none-before}
 use Rattle.exam_appending.proofs.next_slot.Goals as goal
 
+pub returns-in_default : goal.returns-in_default
+returns-in_default c = none-before c.args.directory.now (rw (c.chunks_exact.ensures.rest, c.chunks_exact.ensures.size) at c.in_default.ensures.steps.2.0)
+
 pub overflow_add-result : goal.overflow_add-result
-overflow_add-result c = omega (arith, c.get_bytes.ensures, field_below 4 (c.args.at + 12 * (c.args.n - 1)) c.args.file.now (λ i. (c.type_inv.file i).fits))
+overflow_add-result c =
+    let s = c.in-Some.ensures.steps in
+    let small = last_small c.args.directory.now _ c.in-Some.last.now s.2.0 (sym c.chunks_exact.ensures.rest ∙ s.2.1) (s.2.2 ∙ c.chunks_exact.ensures.size) (λ i. (c.type_inv.directory i).fits) in
+    omega (arith, c.get_bytes.ensures, small)
 
 pub returns : goal.returns
-returns c = next_of _ _ _ _ c.if-n-eq0.false c.get_bytes.ensures
+returns c =
+    let s = c.in-Some.ensures.steps in
+    next_of c.args.directory.now _ _ s.2.0 (sym c.chunks_exact.ensures.rest ∙ s.2.1) (s.2.2 ∙ c.chunks_exact.ensures.size) _
+    (rw (c.chunks_exact.ensures.rest, c.chunks_exact.ensures.size) at s.2.3) c.get_bytes.ensures

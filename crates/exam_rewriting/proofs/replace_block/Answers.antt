@@ -17,26 +17,23 @@ overflow_sub-n-2 c = omega (arith, lies _ _ _ _ _ _ c.requires)
 pub resize-requires : goal.resize-requires
 resize-requires c = (stands_with _ _ _ _ _ _ c.requires, stands-behind _ _ _ _ _ _ c.requires)
 
-pub overflow_mul-end : goal.overflow_mul-end
-overflow_mul-end c = omega (arith, lies _ _ _ _ _ _ c.requires)
+pub overflow_mul-n : goal.overflow_mul-n
+overflow_mul-n c = omega (arith, lies _ _ _ _ _ _ c.requires)
 
-pub overflow_add-end : goal.overflow_add-end
-overflow_add-end c = omega (arith, lies _ _ _ _ _ _ c.requires)
+pub overflow_add-trailer : goal.overflow_add-trailer
+overflow_add-trailer c = omega (arith, lies _ _ _ _ _ _ c.requires)
 
 pub exchange-requires : goal.exchange-requires
 exchange-requires c = exchanging _ _ _ _ _ _ c.requires _ c.resize.ensures
 
-pub overflow_sub-new_end : goal.overflow_sub-new_end
-overflow_sub-new_end c = omega (arith, lies _ _ _ _ _ _ c.requires)
+pub overflow_sub-new_trailer : goal.overflow_sub-new_trailer
+overflow_sub-new_trailer c = omega (arith, lies _ _ _ _ _ _ c.requires)
 
-pub overflow_add-new_end : goal.overflow_add-new_end
-overflow_add-new_end c = omega (arith, lies _ _ _ _ _ _ c.requires)
+pub overflow_add-new_trailer : goal.overflow_add-new_trailer
+overflow_add-new_trailer c = omega (arith, lies _ _ _ _ _ _ c.requires)
 
-pub overflow_add-new_length : goal.overflow_add-new_length
-overflow_add-new_length c = omega (arith, lies _ _ _ _ _ _ c.requires)
-
-pub put_trailer-requires : goal.put_trailer-requires
-put_trailer-requires c =
+pub put_trailer-new_length-requires : goal.put_trailer-new_length-requires
+put_trailer-new_length-requires c =
     let lie = lies _ _ _ _ _ _ c.requires in
     (omega (arith, lie), lie.few)
 
@@ -45,5 +42,5 @@ wipe-requires c = omega (arith, lies _ _ _ _ _ _ c.requires)
 
 pub returns : goal.returns
 returns c =
-    rewrites _ _ _ _ _ _ c.requires (λ i. (c.slice_known-1.given i).fits) _ _ _ _ _ _ _ c.resize.ensures c.exchange.ensures
-    c.put_trailer.ensures c.wipe.ensures (omega arith) (omega arith) (omega arith)
+    rewrites _ _ _ _ _ _ c.requires (λ i. (c.slice_known-1.given i).fits) _ _ _ _ _ _ c.resize.ensures c.exchange.ensures
+    c.put_trailer-new_length.ensures c.wipe.ensures (omega arith)

@@ -1,9 +1,5 @@
-use Prim.Native.Nat.{◌-◌}
 use Rattle.exam_salvaging.proofs.Standing.{Walking}
 use Rattle.exam_salvaging.proofs.find_blocks.Given as goal
 
 abbrev pub invariant-loop-kept : goal.invariant-loop-kept
 invariant-loop-kept l = Walking l.old l.kept l.end
-
-abbrev pub decreases-loop-kept : goal.decreases-loop-kept
-decreases-loop-kept l = 1024 - l.kept

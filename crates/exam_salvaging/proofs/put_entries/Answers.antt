@@ -7,33 +7,21 @@ loop-i-init c = list_starts _ _ _ _ c.requires
 
 pub overflow_add-offset : goal.overflow_add-offset
 overflow_add-offset c =
-    let room = list_room _ _ _ _ _ _ _ _ c.loop-i-test.true c.loop-i.invariant in
+    let room = list_room _ _ _ _ _ _ _ c.loop-i-test.true c.loop-i.invariant in
     omega (arith, room)
 
 pub get_bytes-size-requires : goal.get_bytes-size-requires
 get_bytes-size-requires c =
-    let room = list_room _ _ _ _ _ _ _ _ c.loop-i-test.true c.loop-i.invariant in
+    let room = list_room _ _ _ _ _ _ _ c.loop-i-test.true c.loop-i.invariant in
     (omega (arith, room), omega arith)
-
-pub overflow_cast-i : goal.overflow_cast-i
-overflow_cast-i c = omega (arith, c.loop-i-test.true, c.loop-i.invariant.few)
-
-pub put_entry-requires : goal.put_entry-requires
-put_entry-requires c = omega (arith, c.loop-i-test.true, c.loop-i.invariant.place_is, c.loop-i.invariant.long, c.requires.room)
 
 pub overflow_add-offset-in-loop-i : goal.overflow_add-offset-in-loop-i
 overflow_add-offset-in-loop-i c =
-    let within = list_within _ _ _ _ _ _ _ _ c.loop-i-test.true c.loop-i.invariant _ c.get_bytes-size.ensures in
+    let within = list_within _ _ _ _ _ _ _ c.loop-i-test.true c.loop-i.invariant _ c.get_bytes-size.ensures in
     omega (arith, within)
 
-pub overflow_add-place : goal.overflow_add-place
-overflow_add-place c = omega (arith, c.loop-i-test.true, c.loop-i.invariant.place_is, c.requires.room)
-
 pub loop-i-preserved : goal.loop-i-preserved
-loop-i-preserved c = list_on _ _ _ _ _ _ _ _ c.loop-i-test.true c.loop-i.invariant _ c.get_bytes-size.ensures _ c.put_entry.ensures
-
-pub shape_of-file : goal.shape_of-file
-shape_of-file c = c.loop-i.invariant.long
+loop-i-preserved c = list_on _ _ _ _ _ _ _ c.loop-i-test.true c.loop-i.invariant _ c.get_bytes-size.ensures _ c.put_entry.ensures
 
 pub returns : goal.returns
-returns c = list_ends _ _ _ _ _ _ _ _ c.loop-i-test.false c.loop-i.invariant
+returns c = list_ends _ _ _ _ _ _ _ c.loop-i-test.false c.loop-i.invariant

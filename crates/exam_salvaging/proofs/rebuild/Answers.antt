@@ -16,4 +16,4 @@ put_trailer-requires c = (omega (arith, c.requires.room), found-few c.requires.f
 pub returns : goal.returns
 returns c =
     rebuilt c.args.old.now c.args.found c.requires.found c.args.exam c.args.t c.args.file.now _ _ _ c.requires.room
-    c.copy_in.ensures c.put_entries.ensures c.put_trailer.ensures
+    c.copy_in.ensures c.put_entries.ensures _ c.put_trailer.ensures

@@ -1,15 +1,16 @@
-use mathlib.Core.Path.{sym, ◌∙◌}
+use mathlib.Core.Path.{sym}
 use native.Mathlib.Omega.{arith}
+use Rattle.answers.proofs.Told.{refuses, handed_on}
 use Rattle.exam_rules.proofs.Changes.{change_refused}
 use Rattle.exam_rules.proofs.Accept.{create_takes}
 use Rattle.exam_writing.proofs.Writes.{create_done}
 use Rattle.exam_writing.proofs.create.Goals as goal
 
-pub returns-then-refusal-ne0 : goal.returns-then-refusal-ne0
-returns-then-refusal-ne0 c = change_refused _ _ _ _ c.create_number-refusal.ensures (λ e. omega (arith, c.if-refusal-ne0.true))
+pub returns-in_err-check_create : goal.returns-in_err-check_create
+returns-in_err-check_create c = rw (handed_on c.from_residual.ensures.1) (change_refused _ _ _ _ c.in_err-check_create.ensures (refuses _))
 
 pub put_trailer-requires : goal.put_trailer-requires
-put_trailer-requires c = ((create_takes _ _ _ (sym c.create_number-refusal.ensures ∙ c.if-refusal-ne0.false)).enough, omega arith)
+put_trailer-requires c = ((create_takes _ _ _ (sym c.in_ok-check_create.ensures)).enough, omega arith)
 
 pub returns : goal.returns
-returns c = create_done _ _ _ _ _ c.create_number-refusal.ensures c.if-refusal-ne0.false c.put_trailer.ensures
+returns c = create_done _ _ _ _ _ (sym c.in_ok-check_create.ensures) c.put_trailer.ensures
