@@ -41,7 +41,7 @@ fn exchange(file: &mut [u8], block: &[u8], start: usize, old: usize, end: usize)
     ensures { file.new ≡ sets file.old start (block.now ++ take (end - (start + old)) (drop (start + old) file.old)) }
 {
     let from = start + old;
-    moves::move_bytes(file, from, start + block.len(), end - from);
+    words::move_bytes(file, from, start + block.len(), end - from);
     words::copy_in(file, start, block);
 }
 
@@ -78,6 +78,6 @@ pub fn replace_block(
         n,
         new_length,
     );
-    moves::wipe(file, new_length, length);
+    words::wipe(file, new_length, length);
     new_length
 }

@@ -96,7 +96,7 @@ pub fn add_block(
     let moved = start + size;
     let end = moved + 12 * n;
     let length = end + 44;
-    words::move_up(file, start, moved, 12 * n);
+    words::move_bytes(file, start, moved, 12 * n);
     words::copy_in(file, start, block);
     put_entry(file, end, slot, start, size);
     put_trailer(file, end + 12, edition, t, exam, n + 1, length);
