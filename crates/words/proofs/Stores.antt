@@ -1,5 +1,5 @@
 -- Runs of stores into a list: `lib.Seq.sets` asks for no room, so neither do these laws.
-use Rattle.std.proofs.Common.{◌≡◌, ℕ, suc, ◌+◌, ◌-◌, ◌/◌, ◌%◌, ◌<◌, ◌≤◌, List, [], ◌∷◌, ◌++◌, length, take, drop, set, sym, refl, ap, ◌∙◌, append_assoc, append-nil, add-zero, add-one, arith, length-drop, take-append-drop, drop_of_length-le, length-take-le, drop-drop, drop-set-lt}
+use Rattle.std.proofs.Common.{◌≡◌, ℕ, suc, ◌+◌, ◌-◌, ◌/◌, ◌%◌, ◌<◌, ◌≤◌, List, [], ◌∷◌, ◌++◌, length, take, drop, set, sym, refl, ap, ◌∙◌, append_assoc, append-nil, add-zero, add-one, arith, length-drop, take-append-drop, drop-cons, drop_of_length-le, get_or, length-take-le, drop-drop, drop-set-lt}
 use lib.Seq.{paste, sets, sets-eq, set_comm, take-set-le, drop-set-add}
 use borrow.Rule.Slice.PartMut.{put_mid}
 use Rattle.words.specs.Bytes.{low_bytes}
@@ -49,6 +49,14 @@ part_moved l from to n m e h g =
     let w : length x ≡ n = length-take-le n (drop from l) (simp length-drop (omega arith)) in
     rw (e, sets-eq x l to (omega arith), w)
 
+-- ---- copying bytes, one a turn
+
+pub copy_more : (out src : List ℕ) (at i : ℕ) (whole : List ℕ) → i < length src → sets out (at + i) (drop i src) ≡ whole
+    → sets (set out (at + i) (get_or src i 0)) (at + (i + 1)) (drop (i + 1) src) ≡ whole
+copy_more out src at i whole h p =
+    let e : at + (i + 1) ≡ suc (at + i) = omega arith in
+    rw (e, add-one) (rw (drop-cons src i 0 h) at p)
+
 -- ---- writing a number's bytes, one a turn
 
 pub put_none : (part vs : List ℕ) → length vs ≡ length part → sets part 0 vs ≡ vs
@@ -60,13 +68,8 @@ put_more part j k x whole h p =
     let e : k - j ≡ suc (k - suc j) = omega arith in
     rw add-one (rw e at p)
 
-pub put_all : (part : List ℕ) (j k x : ℕ) (whole : List ℕ) → k ≤ j → sets part j (low_bytes (k - j) x) ≡ whole → part ≡ whole
-put_all part j k x whole h p =
-    let e : k - j ≡ 0 = omega arith in
-    rw e at p
-
 -- for what a function writes to a part of a slice
-pub ruleset stores = (part_written, part_moved, put_none, put_more, put_all, length_low)
+pub ruleset stores = (part_written, part_moved, put_none, put_more, length_low, copy_more)
 
 -- one run of stores after another
 pub join : (b c d xs ys : List ℕ) (i j : ℕ) → c ≡ sets b i xs → d ≡ sets c j ys → j ≡ i + length xs → d ≡ sets b i (xs ++ ys)

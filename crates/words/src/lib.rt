@@ -85,13 +85,15 @@ pub fn same(a: &[u8], b: &[u8]) -> bool
     a == b
 }
 
-// Copies the bytes of src to a place of out.
+// Copies the bytes of src to a place of out. (`copy_from_slice` would have C's library called for `memmove`.)
 #[tactic(auto, using(crate::proofs::Stores::stores))]
 pub fn copy_in(out: &mut [u8], at: usize, src: &[u8])
     requires { at + length src.now ≤ length out.old }
     ensures { out.new ≡ sets out.old at src.now }
 {
-    out[at..at + src.len()].copy_from_slice(src);
+    for (i, byte) in src.iter().enumerate() {
+        out[at + i] = *byte;
+    }
 }
 
 // Moves n bytes from one place of a buffer to another, which may overlap.
