@@ -25,7 +25,9 @@ pub fn difference(a: u64, b: u64) -> u64
 pub fn clear(table: &mut [u64])
     ensures { table.new ≡ replicate (length table.old) 0 }
 {
-    table.fill(0);
+    for word in table.iter_mut() {
+        *word = 0;
+    }
 }
 
 // Writes the k low bytes of x at a place, low byte first.
