@@ -68,9 +68,6 @@ put_more part j k x whole h p =
     let e : k - j ≡ suc (k - suc j) = omega arith in
     rw add-one (rw e at p)
 
--- for what a function writes to a part of a slice
-pub ruleset stores = (part_written, part_moved, put_none, put_more, length_low, copy_more)
-
 -- one run of stores after another
 pub join : (b c d xs ys : List ℕ) (i j : ℕ) → c ≡ sets b i xs → d ≡ sets c j ys → j ≡ i + length xs → d ≡ sets b i (xs ++ ys)
 join b c d xs ys i j p q e = q ∙ rw (p, e) (sym (sets-append b i xs ys))
@@ -84,6 +81,9 @@ put_again b at k h =
     ∙ append_assoc (take at b) x (drop (at + length x) b)
     ∙ ap (λ (y : List ℕ). take at b ++ y) (rw (n, ← (drop-drop k at b)) (take-append-drop k (drop at b)))
     ∙ take-append-drop at b
+
+-- for what a function writes to a part of a slice
+pub ruleset stores = (part_written, part_moved, put_none, put_more, length_low, copy_more, put_again)
 
 -- what a block pushes on, and then the block
 pub put_before : (b c d xs ys : List ℕ) (at : ℕ) → c ≡ sets b (at + length xs) ys → d ≡ sets c at xs → d ≡ sets b at (xs ++ ys)

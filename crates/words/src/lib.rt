@@ -98,13 +98,16 @@ pub fn copy_in(out: &mut [u8], at: usize, src: &[u8])
     }
 }
 
-// Moves n bytes from one place of a buffer to another, which may overlap.
+// Moves n bytes from one place of a buffer to another, which may overlap. Where the places are the
+// same, nothing is touched.
 #[tactic(auto, using(crate::proofs::Stores::stores))]
 pub fn move_bytes(buffer: &mut [u8], from: usize, to: usize, n: usize)
     requires { (from + n ≤ length buffer.old) × (to + n ≤ length buffer.old) }
     ensures { buffer.new ≡ sets buffer.old to (take n (drop from buffer.old)) }
 {
-    buffer.copy_within(from..from + n, to);
+    if from != to {
+        buffer.copy_within(from..from + n, to);
+    }
 }
 
 // Sets the bytes from one place up to another to zero: none, where the second is not above the first.
