@@ -1,5 +1,5 @@
 -- Staging residual bytes: eight stored at a time, of which a code's own number counts.
-use Rattle.std.proofs.Common.{◌≡◌, ℕ, zero, suc, ◌+◌, ◌*◌, ◌/◌, ◌%◌, ◌^◌, ◌<◌, ◌≤◌, List, ◌∷◌, ◌++◌, length, get_or, take, drop, set, sym, refl, ap, ◌∙◌, append_assoc, append-nil, add-zero, arith, length-append, length-take-le}
+use Rattle.std.proofs.Common.{◌≡◌, ℕ, zero, suc, ◌+◌, ◌*◌, ◌/◌, ◌%◌, ◌^◌, ◌<◌, ◌≤◌, List, ◌∷◌, ◌++◌, length, get_or, take, drop, sym, refl, ap, ◌∙◌, append_assoc, append-nil, add-zero, arith, length-append, length-take-le}
 use lib.Seq.{sets, sets-eq, take-append-add, take-append-le}
 use Rattle.words.specs.Words.{add64, xor}
 use Rattle.words.specs.Bytes.{low_bytes}
@@ -19,31 +19,6 @@ use Rattle.block_staging.specs.declared.Staging.{Staging}
 use Rattle.block_staging.specs.declared.Step.{Step}
 
 -- ---- eight bytes
-
-pub eight_stored : (l : List ℕ) (at x : ℕ)
-    → set
-    (set
-    (set
-    (set (set (set (set (set l at (x % 256)) (at + 1) (x / 256 % 256)) (at + 2) (x / 65536 % 256)) (at + 3) (x / 16777216 % 256)) (at + 4) (x / 4294967296 % 256))
-    (at + 5) (x / 1099511627776 % 256))
-    (at + 6) (x / 281474976710656 % 256))
-    (at + 7) (x / 72057594037927936 % 256)
-    ≡ sets l at (low_bytes 8 x)
-eight_stored l at x =
-    let a1 : at + 1 ≡ suc at = omega arith in
-    let a2 : at + 2 ≡ suc (suc at) = omega arith in
-    let a3 : at + 3 ≡ suc (suc (suc at)) = omega arith in
-    let a4 : at + 4 ≡ suc (suc (suc (suc at))) = omega arith in
-    let a5 : at + 5 ≡ suc (suc (suc (suc (suc at)))) = omega arith in
-    let a6 : at + 6 ≡ suc (suc (suc (suc (suc (suc at))))) = omega arith in
-    let a7 : at + 7 ≡ suc (suc (suc (suc (suc (suc (suc at)))))) = omega arith in
-    let d2 : x / 65536 ≡ x / 256 / 256 = omega arith in
-    let d3 : x / 16777216 ≡ x / 256 / 256 / 256 = omega arith in
-    let d4 : x / 4294967296 ≡ x / 256 / 256 / 256 / 256 = omega arith in
-    let d5 : x / 1099511627776 ≡ x / 256 / 256 / 256 / 256 / 256 = omega arith in
-    let d6 : x / 281474976710656 ≡ x / 256 / 256 / 256 / 256 / 256 / 256 = omega arith in
-    let d7 : x / 72057594037927936 ≡ x / 256 / 256 / 256 / 256 / 256 / 256 / 256 = omega arith in
-    rw (a1, a2, a3, a4, a5, a6, a7, d2, d3, d4, d5, d6, d7)
 
 -- the first of them are the low bytes
 low_first : (k n x : ℕ) → k ≤ n → take k (low_bytes n x) ≡ low_bytes k x

@@ -43,20 +43,13 @@ pub struct Pending {
     pub staged: usize,
 }
 
-// Stores all eight bytes of a residual in the stage, low byte first. Straight-line stores become a
-// single one.
+// Stores all eight bytes of a residual in the stage, low byte first.
+#[tactic(auto, using(words::proofs::Stores::stores, words::proofs::Bytes::eight_written))]
 fn store_eight(stage: &mut [u8], at: usize, residual: u64)
     requires { at + 8 ≤ length stage.old }
     ensures { stage.new ≡ sets stage.old at (low_bytes 8 residual) }
 {
-    stage[at] = (residual % 256) as u8;
-    stage[at + 1] = (residual / 256 % 256) as u8;
-    stage[at + 2] = (residual / 65536 % 256) as u8;
-    stage[at + 3] = (residual / 16777216 % 256) as u8;
-    stage[at + 4] = (residual / 4294967296 % 256) as u8;
-    stage[at + 5] = (residual / 1099511627776 % 256) as u8;
-    stage[at + 6] = (residual / 281474976710656 % 256) as u8;
-    stage[at + 7] = (residual / 72057594037927936 % 256) as u8;
+    stage[at..at + 8].copy_from_slice(&residual.to_le_bytes());
 }
 
 // Stages the residual bytes of a word behind those that are there, given what fcm and dfcm predict. A

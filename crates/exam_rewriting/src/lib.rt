@@ -38,7 +38,7 @@ fn exchange(file: &mut [u8], block: &[u8], start: usize, old: usize, end: usize)
     ensures { file.new ≡ sets file.old start (block.now ++ take (end - (start + old)) (drop (start + old) file.old)) }
 {
     let from = start + old;
-    moves::move_bytes(file, from, start + block.len(), end - from);
+    words::move_bytes(file, from, start + block.len(), end - from);
     words::copy_in(file, start, block);
 }
 
@@ -67,6 +67,6 @@ pub fn replace_block(
         ..trailer
     };
     let new_length = exam_writing::put_trailer(file, new_trailer, exam);
-    moves::wipe(file, new_length, length);
+    words::wipe(file, new_length, length);
     new_length
 }

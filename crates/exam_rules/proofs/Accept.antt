@@ -8,7 +8,7 @@ use lib.ListN.{length, get_or, take}
 use lib.Seq.{length-take-le}
 use borrow.Author.Tests.{leb-true, ltb-true, eqb-true, eqb-false, le-leb, lt-ltb, eq-eqb}
 use Rattle.words.proofs.Tests.{either}
-use Rattle.words.proofs.Moves.{same_equal, equal_same}
+use Rattle.words.proofs.Alike.{same_equal, equal_same}
 use Rattle.answers.specs.Answers.{afterwards}
 use Rattle.answers.proofs.Checks.{unless-passes, unless_holds, none_fails, fails_later, last_decides, all_pass, passes, afterwards-new, afterwards-old}
 use Rattle.block_rules.specs.Block.{block, count, worst}

@@ -10,7 +10,7 @@ use lib.Seq.{take_at, drop_at, drop-append-add}
 use Rattle.words.specs.Bytes.{number, field}
 use Rattle.words.proofs.Each.{Each, more}
 use Rattle.words.proofs.Bytes.{number_low}
-use Rattle.words.proofs.Moves.{equal_same}
+use Rattle.words.proofs.Alike.{equal_same}
 use Rattle.exam_rules.specs.File.{Entry, entry_bytes, directory_bytes, mark, trailer_bytes, File, file_length, file_bytes}
 use Rattle.exam_rules.specs.Reading.{trailer_at, mark_in, edition_in, t_in, exam_in, distance_in, entries_in, length_in, directory_at, entry_at, entries_at, file_in}
 use Rattle.exam_rules.specs.Numbers.{most_bytes, edition_known, directory_number, open_in_number}

@@ -9,7 +9,7 @@ use lib.ListN.{length, get_or, take, drop, length-append, length-drop, take-appe
 use lib.Seq.{drop-drop, drop-append_seam, length-take-le, take-append-le}
 use Rattle.words.specs.Bytes.{number, field}
 use Rattle.words.proofs.Each.{more}
-use Rattle.words.proofs.Moves.{same_equal}
+use Rattle.words.proofs.Alike.{same_equal}
 use Rattle.answers.proofs.Checks.{unless_holds}
 use Rattle.block_rules.specs.Block.{count, stated_length}
 use Rattle.block_rules.specs.Numbers.{form_number, block_number}

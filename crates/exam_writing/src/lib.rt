@@ -82,7 +82,7 @@ pub fn add_block(file: &mut [u8], block: &[u8], trailer: Trailer, slot: u32, exa
     let size = block.len();
     let moved = start + size;
     let directory = 12 * trailer.entries;
-    words::move_up(file, start, moved, directory);
+    words::move_bytes(file, start, moved, directory);
     words::copy_in(file, start, block);
     put_entry(file, moved + directory, slot, start, size);
     let new_trailer = Trailer {

@@ -1,9 +1,12 @@
 -- Bytes low first, and the number that they make.
-use Rattle.std.proofs.Common.{◌≡◌, ℕ, zero, suc, ◌+◌, ◌-◌, ◌*◌, ◌/◌, ◌%◌, ◌^◌, ◌<◌, ◌≤◌, List, [], ◌∷◌, ◌++◌, length, get_or, take, drop, refl, ap, ◌∙◌, mul_assoc, mul_comm, div-lt_iff_lt-mul, suc-add, pow-suc, mul-zero, zero-add, arith, get_or-drop, drop-cons, drop-drop}
+use Rattle.std.proofs.Common.{◌≡◌, ℕ, zero, suc, ◌+◌, ◌-◌, ◌*◌, ◌/◌, ◌%◌, ◌^◌, ◌<◌, ◌≤◌, List, [], ◌∷◌, ◌++◌, length, get_or, take, drop, refl, ap, ◌∙◌, mul_assoc, mul_comm, div-lt_iff_lt-mul, suc-add, pow-suc, mul-zero, zero-add, rules, arith, get_or-drop, drop-cons, drop-drop, length-drop, length-append, length-take-le, replicate}
 use native.Mathlib.Nat.{pow-succ', div-eq_of_lt, add-mul-div_left}
 use lib.Seq.{take-nil}
+use Rattle.std.proofs.lemmas.List.{drop-replicate}
+use Rattle.std.specs.Int.{w64, from_le_bytes, to_le_bytes}
+use Rattle.std.proofs.lemmas.Grind.{common_steps}
 use Rattle.words.specs.Bytes.{Bytes, low_bytes, number, field}
-use Rattle.words.proofs.Zeros.{pow_256, pow_256_le}
+use Rattle.words.proofs.Zeros.{pow_256}
 
 -- ---- lists of bytes
 
@@ -55,6 +58,30 @@ number-below zero bs h = omega arith
 number-below (suc k) [] h = omega (arith, number-below k [] h, pow-suc 256 k)
 number-below (suc k) (b ∷ bs) h = rw pow-suc (omega (arith, number-below k bs (λ i. h (suc i)), h 0))
 
+pub eight_written : (x : ℕ) → to_le_bytes w64 x ≡ low_bytes 8 x
+eight_written x = search rules
+
+eight_read : (bs : List ℕ) → length bs ≡ 8 → from_le_bytes w64 bs ≡ number bs
+eight_read bs h = grind (arith, common_steps)
+
+-- zeros behind don't count
+number_padded : (bs zeros : List ℕ) → number zeros ≡ 0 → number (bs ++ zeros) ≡ number bs
+number_padded [] zeros h = h
+number_padded (b ∷ bs) zeros h = rw (number_padded bs zeros h)
+
+number_zeros : (n : ℕ) → number (replicate n 0) ≡ 0
+number_zeros zero = refl
+number_zeros (suc n) = rw (number_zeros n)
+
+-- a number as the library reads it: from eight bytes, of which those behind the first k are zeros
+pub read_padded : (k at : ℕ) (bs part : List ℕ) → part ≡ take k (drop at bs) → at + k ≤ length bs → k ≤ 8 → from_le_bytes w64 (part ++ drop k (replicate 8 0)) ≡ field k at bs
+read_padded k at bs part e h l =
+    let x = take k (drop at bs) in
+    let zeros : List ℕ = drop k (replicate 8 0) in
+    let n : length x ≡ k = length-take-le k (drop at bs) (simp length-drop (omega arith)) in
+    let all : length (x ++ zeros) ≡ 8 = simp (length-append, length-drop) (omega (arith, n)) in
+    rw e (eight_read (x ++ zeros) all ∙ number_padded x zeros (simp drop-replicate (number_zeros (8 - k))))
+
 -- ---- a field in two parts
 
 number-joined : (j k : ℕ) (bs : List ℕ) → number (take (j + k) bs) ≡ number (take j bs) + 256 ^ j * number (take k (drop j bs))
@@ -72,42 +99,6 @@ field-one at b bs h e = rw (e, drop-cons bs at 0 h) (omega arith)
 
 pub field_of : (j k at low high : ℕ) (bs : List ℕ) → low ≡ field j at bs → high ≡ field k (at + j) bs → low + high * 256 ^ j ≡ field (j + k) at bs
 field_of j k at low high bs e f = rw (e, f, field-joined j k at bs, mul_comm (field k (at + j) bs) (256 ^ j))
-
--- ---- reading a field from its last byte down
-
--- of the k bytes at a place, those from the j-th on are read as x
-pub record Reading (bs : List ℕ) (at k j x : ℕ) : Type 0 where
-  pub upto : j ≤ k
-  pub is : x ≡ field (k - j) (at + j) bs
-  pub small : x < 256 ^ (k - j)
-
-pub reading_none : (bs : List ℕ) (at k : ℕ) → Reading bs at k k 0
-reading_none bs at k =
-    let e : k - k ≡ 0 = omega arith in
-    record { upto = omega arith; is = rw e; small = rw e (omega arith) }
-
-pub reading_more : (bs : List ℕ) (at k j x b : ℕ) → at + k ≤ length bs → 0 < j → Reading bs at k j x → b ≡ get_or bs (at + (j - 1)) 0 → b < 256
-    → Reading bs at k (j - 1) (x * 256 + b)
-reading_more bs at k j x b h p g e l =
-    let n : k - (j - 1) ≡ suc (k - j) = omega (arith, g.upto) in
-    let d : drop (at + (j - 1)) bs ≡ get_or bs (at + (j - 1)) 0 ∷ drop (suc (at + (j - 1))) bs = drop-cons bs (at + (j - 1)) 0 (omega (arith, g.upto)) in
-    let f : suc (at + (j - 1)) ≡ at + j = omega arith in
-    record {
-      upto = omega (arith, g.upto);
-      is = rw (n, d, f, ← e, ← g.is) (omega arith);
-      small = rw (n, pow-suc) (omega (arith, g.small));
-    }
-
-pub reading_fits : (bs : List ℕ) (at k j x : ℕ) → k ≤ 8 → 0 < j → Reading bs at k j x → x < 2 ^ 56
-reading_fits bs at k j x h p g =
-    let s : k - j ≤ 7 = omega arith in
-    omega (arith, g.small, pow_256_le s)
-
-pub reading_all : (bs : List ℕ) (at k j x : ℕ) → j ≤ 0 → Reading bs at k j x → x ≡ field k at bs
-reading_all bs at k j x h g =
-    let e : k - j ≡ k = omega arith in
-    let f : at + j ≡ at = omega arith in
-    rw (e, f) at g.is
 
 -- a field of k bytes is below 256 ^ k
 pub field_below : (k at : ℕ) (bs : List ℕ) → Bytes bs → field k at bs < 256 ^ k

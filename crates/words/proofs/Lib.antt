@@ -4,5 +4,5 @@ pub mod Zeros
 pub mod Xor
 pub mod Bytes
 pub mod Stores
-pub mod Moves
+pub mod Alike
 pub mod Claims

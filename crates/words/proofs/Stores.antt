@@ -1,9 +1,9 @@
 -- Runs of stores into a list: `lib.Seq.sets` asks for no room, so neither do these laws.
-use Rattle.std.proofs.Common.{◌≡◌, ℕ, suc, ◌+◌, ◌-◌, ◌/◌, ◌%◌, ◌<◌, ◌≤◌, List, [], ◌∷◌, ◌++◌, length, take, drop, set, replicate, sym, refl, ap, ◌∙◌, append_assoc, append-nil, add-zero, arith, length-drop, length-set, take-append-drop, drop_of_length-le, length-take-le, drop-drop, drop-set-lt}
-use native.Mathlib.Nat.{sub-zero}
-use lib.ListN.{length-replicate}
-use lib.Seq.{sets, sets-eq, set_comm, take-set-le, drop-set-add}
+use Rattle.std.proofs.Common.{◌≡◌, ℕ, suc, ◌+◌, ◌-◌, ◌/◌, ◌%◌, ◌<◌, ◌≤◌, List, [], ◌∷◌, ◌++◌, length, take, drop, set, sym, refl, ap, ◌∙◌, append_assoc, append-nil, add-zero, add-one, arith, length-drop, take-append-drop, drop-cons, drop_of_length-le, get_or, length-take-le, drop-drop, drop-set-lt}
+use lib.Seq.{paste, sets, sets-eq, set_comm, take-set-le, drop-set-add}
+use borrow.Rule.Slice.PartMut.{put_mid}
 use Rattle.words.specs.Bytes.{low_bytes}
+use Rattle.words.proofs.Bytes.{length_low}
 
 pub sets-append : (l : List ℕ) (i : ℕ) (vs ws : List ℕ) → sets l i (vs ++ ws) ≡ sets (sets l i vs) (i + length vs) ws
 sets-append l i [] ws = rw (add-zero i)
@@ -38,48 +38,35 @@ pub kept_above : (l : List ℕ) (j : ℕ) (vs : List ℕ) (i : ℕ) → j + leng
 kept_above l j [] i h = refl
 kept_above l j (v ∷ vs) i h = kept_above (set l j v) (suc j) vs i (omega arith) ∙ drop-set-lt i l j v (omega arith)
 
+-- what a write to a part of a list leaves is a run of stores
+pub part_written : (l : List ℕ) (i k : ℕ) (part vs : List ℕ) → part ≡ vs → k ≡ length vs → i + k ≤ length l → put_mid i k l part ≡ sets l i vs
+part_written l i k part vs e n h = rw (e, drop-drop k i l, n, sets-eq vs l i (omega arith)) (sym (append_assoc (take i l) vs (drop (i + length vs) l)))
+
+-- and so is what a copy within it leaves
+pub part_moved : (l : List ℕ) (from to n m : ℕ) → m ≡ n → from + n ≤ length l → to + n ≤ length l → paste l to (drop from l) m ≡ sets l to (take n (drop from l))
+part_moved l from to n m e h g =
+    let x = take n (drop from l) in
+    let w : length x ≡ n = length-take-le n (drop from l) (simp length-drop (omega arith)) in
+    rw (e, sets-eq x l to (omega arith), w)
+
+-- ---- copying bytes, one a turn
+
+pub copy_more : (out src : List ℕ) (at i : ℕ) (whole : List ℕ) → i < length src → sets out (at + i) (drop i src) ≡ whole
+    → sets (set out (at + i) (get_or src i 0)) (at + (i + 1)) (drop (i + 1) src) ≡ whole
+copy_more out src at i whole h p =
+    let e : at + (i + 1) ≡ suc (at + i) = omega arith in
+    rw (e, add-one) (rw (drop-cons src i 0 h) at p)
+
 -- ---- writing a number's bytes, one a turn
 
-pub put_more : (out : List ℕ) (at j k x : ℕ) (whole : List ℕ) → j < k → sets out (at + j) (low_bytes (k - j) x) ≡ whole
-    → sets (set out (at + j) (x % 256)) (at + (j + 1)) (low_bytes (k - (j + 1)) (x / 256)) ≡ whole
-put_more out at j k x whole h p =
-    let e : k - j ≡ suc (k - (j + 1)) = omega arith in
-    let f : at + (j + 1) ≡ suc (at + j) = omega arith in
-    rw f (rw e at p)
+pub put_none : (part vs : List ℕ) → length vs ≡ length part → sets part 0 vs ≡ vs
+put_none part vs h = rw (sets-eq vs part 0 (omega arith), drop_of_length-le part {i = 0 + length vs} (omega arith), append-nil)
 
-pub put_all : (out : List ℕ) (at j k x : ℕ) (whole : List ℕ) → k ≤ j → sets out (at + j) (low_bytes (k - j) x) ≡ whole → out ≡ whole
-put_all out at j k x whole h p =
-    let e : k - j ≡ 0 = omega arith in
-    rw e at p
-
--- ---- setting a run of elements to zero, one a turn
-
--- those before i are zero already, and with those from i on the whole run is
-pub record Wiping (l₀ : List ℕ) (from to : ℕ) (l : List ℕ) (i : ℕ) : Type 0 where
-  pub long : length l ≡ length l₀
-  pub same : sets l i (replicate (to - i) 0) ≡ sets l₀ from (replicate (to - from) 0)
-
-pub wipe_starts : (l : List ℕ) (from to : ℕ) → Wiping l from to l from
-wipe_starts l from to = record { long = refl; same = refl }
-
-pub wipe_on : (l₀ l : List ℕ) (from to i : ℕ) → i < to → Wiping l₀ from to l i → Wiping l₀ from to (set l i 0) (i + 1)
-wipe_on l₀ l from to i h g =
-    let e : to - i ≡ suc (to - (i + 1)) = omega arith in
-    let f : i + 1 ≡ suc i = omega arith in
-    record { long = simp length-set g.long; same = rw f (rw (e, f) at g.same) }
-
-pub wipe_ends : (l₀ l : List ℕ) (from to i : ℕ) → to ≤ i → Wiping l₀ from to l i → l ≡ sets l₀ from (replicate (to - from) 0)
-wipe_ends l₀ l from to i h g =
-    let e : to - i ≡ 0 = omega arith in
-    rw e at g.same
-
--- all of a list
-pub clear_ends : (l₀ l : List ℕ) (i : ℕ) → length l₀ ≤ i → Wiping l₀ 0 (length l₀) l i → l ≡ replicate (length l₀) 0
-clear_ends l₀ l i h g =
-    let z : List ℕ = replicate (length l₀) 0 in
-    let n : length z ≡ length l₀ = length-replicate (length l₀) 0 in
-    wipe_ends l₀ l 0 (length l₀) i h g
-    ∙ rw (sub-zero (length l₀), sets-eq z l₀ 0 (omega arith), drop_of_length-le l₀ {i = 0 + length z} (omega arith), append-nil)
+pub put_more : (part : List ℕ) (j k x : ℕ) (whole : List ℕ) → j < k → sets part j (low_bytes (k - j) x) ≡ whole
+    → sets (set part j (x % 256)) (j + 1) (low_bytes (k - (j + 1)) (x / 256)) ≡ whole
+put_more part j k x whole h p =
+    let e : k - j ≡ suc (k - suc j) = omega arith in
+    rw add-one (rw e at p)
 
 -- one run of stores after another
 pub join : (b c d xs ys : List ℕ) (i j : ℕ) → c ≡ sets b i xs → d ≡ sets c j ys → j ≡ i + length xs → d ≡ sets b i (xs ++ ys)
@@ -94,6 +81,9 @@ put_again b at k h =
     ∙ append_assoc (take at b) x (drop (at + length x) b)
     ∙ ap (λ (y : List ℕ). take at b ++ y) (rw (n, ← (drop-drop k at b)) (take-append-drop k (drop at b)))
     ∙ take-append-drop at b
+
+-- for what a function writes to a part of a slice
+pub ruleset stores = (part_written, part_moved, put_none, put_more, length_low, copy_more, put_again)
 
 -- what a block pushes on, and then the block
 pub put_before : (b c d xs ys : List ℕ) (at : ℕ) → c ≡ sets b (at + length xs) ys → d ≡ sets c at xs → d ≡ sets b at (xs ++ ys)
