@@ -70,9 +70,5 @@ pub fn tally(block: &[u8]) -> Tally
 pub fn no_tally() -> Tally
     ensures { result ≡ no_tally }
 {
-    Tally {
-        fcm_words: 0,
-        dfcm_words: 0,
-        residual_bytes: 0,
-    }
+    Tally::default()
 }
