@@ -61,14 +61,11 @@ pub fn none_padded(block: &[u8], n: usize) -> bool
     let mut tops = 6 + (n + 1) / 2;
     let mut high_faults: u64 = 0;
     let mut low_faults: u64 = 0;
-    let mut j = 0;
-    while j < pairs {
-        let byte = block[8 + j];
+    for byte in &block[8..8 + pairs] {
         let middle = tops + residual_bytes(byte / 16);
         tops = middle + residual_bytes(byte % 16);
         high_faults += padded(block, middle, byte / 16);
         low_faults += padded(block, tops, byte % 16);
-        j += 1;
     }
     let faults = high_faults + low_faults;
     if n % 2 == 1 {

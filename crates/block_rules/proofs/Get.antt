@@ -2,7 +2,7 @@
 use mathlib.Core.Path.{◌≡◌, refl, sym, ap, ◌∙◌}
 use mathlib.Core.List.{List, [], ◌∷◌}
 use mathlib.Core.Bool.{cond}
-use Prim.Native.Nat.{ℕ, zero, suc, ◌+◌, ◌*◌, ◌/◌, ◌%◌, ◌≤◌, ◌<◌}
+use Prim.Native.Nat.{ℕ, zero, suc, ◌+◌, ◌-◌, ◌*◌, ◌/◌, ◌%◌, ◌≤◌, ◌<◌}
 use native.Mathlib.Omega.{arith}
 use native.Mathlib.Numerals.{add-one}
 use lib.Dec.{eqb}
@@ -47,6 +47,14 @@ pub half_low : (b : List ℕ) (j byte : ℕ) → byte ≡ get_or b (8 + j) 0 →
 half_low b j byte e =
     let i : (2 * j + 1) / 2 ≡ j = omega arith in
     rw e (rw i at (half_odd b (2 * j + 1) (λ z. omega arith)))
+
+-- the code bytes that hold two codes each, as a slice of the block
+module _ (b : List ℕ) (n : ℕ) (c : Counted b n) where
+  pub pairs_end : length (take (8 + n / 2 - 8) (drop 8 b)) ≡ n / 2
+  pairs_end = simp (length-take, length-drop) (omega (arith, c.codes))
+
+  pub pairs_byte : (j : ℕ) → j < n / 2 → get_or (take (8 + n / 2 - 8) (drop 8 b)) j 0 ≡ get_or b (8 + j) 0
+  pairs_byte j h = get_or-take (8 + n / 2 - 8) (drop 8 b) j 0 (omega arith) ∙ get_or-drop 8 b j 0
 
 length-halves : (bs : List ℕ) → length (halves bs) ≡ 2 * length bs
 length-halves [] = refl
