@@ -12,7 +12,7 @@ use Rattle.block_rules.specs.Codes.{written, padded}
 use Rattle.block_rules.specs.Block.{halves, counted_codes, residual_length, residuals_at, coded_in, none_padded}
 use Rattle.block_rules.specs.Inside.{Spanned, coded_at}
 use Rattle.block_rules.proofs.Padded.{bytes}
-use Rattle.block_rules.proofs.Get.{half_high, half_low, pairs_end, pairs_byte, rest, rest-next, span_next, rest-none}
+use Rattle.block_rules.proofs.Get.{half_high, pairs_end, pairs_high, pairs_low, rest, rest-next, span_next, rest-none}
 use Rattle.block_padding.specs.Inside.{least_top}
 
 -- ---- one code
@@ -111,18 +111,15 @@ module _ (b : List ℕ) (n tops high low j byte first second : ℕ) (s : Spanned
   h : j < n / 2
   h = omega (arith, turn, pairs_end b n s.counted)
 
-  e : byte ≡ get_or b (8 + j) 0
-  e = is ∙ pairs_byte b n s.counted j h
-
   after_first : (k : ℕ) → k ≡ cond (padded (coded_at b (tops + first + 2 - written (byte / 16)) (byte / 16))) 1 0 → Walking b n (tops + first + 2) (high + low + k) (2 * j + 1)
   after_first k p =
       let at : tops + first + 2 - written (byte / 16) ≡ tops + 2 = omega arith in
       let next : tops + first + 2 ≡ tops + 2 + written (byte / 16) = omega arith in
-      rw next (walking_on b n (tops + 2) (high + low) (2 * j) s w (byte / 16) (omega (arith, h)) (half_high b j byte e) k (rw at at p))
+      rw next (walking_on b n (tops + 2) (high + low) (2 * j) s w (byte / 16) (omega (arith, h)) (pairs_high b n s.counted j byte turn is) k (rw at at p))
 
   pub pair_within : tops + first + second + 2 ≤ length b
   pair_within =
-      let within = walking_within b n (tops + first + 2) _ (2 * j + 1) s (after_first _ refl) (byte % 16) (omega (arith, h)) (half_low b j byte e) in
+      let within = walking_within b n (tops + first + 2) _ (2 * j + 1) s (after_first _ refl) (byte % 16) (omega (arith, h)) (pairs_low b n s.counted j byte turn is) in
       omega (arith, within)
 
   pub walking_pair : (k l : ℕ) → k ≡ cond (padded (coded_at b (tops + first + 2 - written (byte / 16)) (byte / 16))) 1 0
@@ -133,7 +130,7 @@ module _ (b : List ℕ) (n tops high low j byte first second : ℕ) (s : Spanned
       let next : tops + first + second + 2 ≡ tops + first + 2 + written (byte % 16) = omega arith in
       let i : 2 * (j + 1) ≡ 2 * j + 1 + 1 = omega arith in
       let faults : high + k + (low + l) ≡ high + low + k + l = omega arith in
-      rw (next, i, faults) (walking_on b n (tops + first + 2) (high + low + k) (2 * j + 1) s (after_first k p) (byte % 16) (omega (arith, h)) (half_low b j byte e) l (rw at at q))
+      rw (next, i, faults) (walking_on b n (tops + first + 2) (high + low + k) (2 * j + 1) s (after_first k p) (byte % 16) (omega (arith, h)) (pairs_low b n s.counted j byte turn is) l (rw at at q))
 
 ended : (b : List ℕ) (n at faults i : ℕ) → Spanned b n → Walking b n at faults i → n ≤ i → eqb faults 0 ≡ none_padded (coded_in b)
 ended b n at faults i s w h = sym (rw (rest-none b n i at s.counted h) at w.tells ∙ whole (eqb faults 0))
