@@ -14,7 +14,7 @@ use Rattle.block_rules.specs.declared.Carry.{Carry}
 use Rattle.block_choice.specs.Inside.{Masked}
 
 -- shifted by a, with w, under the mask
-pub hashed : (a mask h w : ℕ) → a ≤ 6 → Masked mask h → bit_and (bit_xor ((h * 2 ^ a) % 2 ^ 64) w) mask ≡ low_bits (t_of (mask + 1)) (xor (shifted_left a h) w)
+pub hashed : (a mask h w : ℕ) → a ≤ 48 → Masked mask h → bit_and (bit_xor ((h * 2 ^ a) % 2 ^ 64) w) mask ≡ low_bits (t_of (mask + 1)) (xor (shifted_left a h) w)
 unfolding low_bits xor shifted_left
 hashed a mask h w l s =
     let t = t_of (mask + 1) in

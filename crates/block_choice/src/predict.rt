@@ -11,7 +11,7 @@ use block_rules::Carry;
 // The new hash of a predictor after what it learnt: the old one shifted left, with the high bits of what
 // was learnt. The mask keeps its low t bits.
 fn next_hash<const LEFT: u32, const RIGHT: u32>(mask: usize, hash: usize, learnt: u64) -> usize
-    requires { Masked mask hash × (LEFT ≤ 6) × (RIGHT < 64) }
+    requires { Masked mask hash × (LEFT ≤ 48) × (RIGHT < 64) }
     ensures { result ≡ low_bits (t_of (mask + 1)) (xor (shifted_left LEFT hash) (shifted_right RIGHT learnt)) }
 {
     ((hash << LEFT) ^ ((learnt >> RIGHT) as usize)) & mask
