@@ -61,7 +61,7 @@ pub fn none_padded(block: &[u8], n: usize) -> bool
     let mut tops = 6 + (n + 1) / 2;
     let mut high_faults: u64 = 0;
     let mut low_faults: u64 = 0;
-    for byte in &block[8..8 + pairs] {
+    for &byte in &block[8..8 + pairs] {
         let middle = tops + residual_bytes(byte / 16);
         tops = middle + residual_bytes(byte % 16);
         high_faults += padded(block, middle, byte / 16);

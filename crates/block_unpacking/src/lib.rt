@@ -83,9 +83,9 @@ fn get_words(block: &[u8], n: usize, fcm: &mut [u64], dfcm: &mut [u64], words: &
             last: 0,
         },
     };
-    for (j, byte) in block[8..8 + n / 2].iter().enumerate() {
-        let middle = get_word(block, place, *byte / 16, fcm, dfcm, words, 2 * j);
-        place = get_word(block, middle, *byte % 16, fcm, dfcm, words, 2 * j + 1);
+    for (j, &byte) in block[8..8 + n / 2].iter().enumerate() {
+        let middle = get_word(block, place, byte / 16, fcm, dfcm, words, 2 * j);
+        place = get_word(block, middle, byte % 16, fcm, dfcm, words, 2 * j + 1);
     }
     if n % 2 == 1 {
         get_word(
