@@ -33,26 +33,6 @@ by_tops (suc (suc (suc (suc (suc (suc zero)))))) x s = same_test (x / 2 ^ 56) (2
 by_tops (suc (suc (suc (suc (suc (suc (suc zero))))))) x s = sym (le-ltb (x / 2 ^ 48) 0 (omega arith))
 by_tops (suc (suc (suc (suc (suc (suc (suc (suc l)))))))) x s = absurd (omega arith)
 
--- what the low bits ask
-pub bytes_of : (code l : ℕ) → code % 8 ≡ l → bytes l ≡ written code
-unfolding written
-bytes_of code l e = rw e
-
-pub least_of : (code l : ℕ) → code % 8 ≡ l → least l ≡ least_top code
-unfolding least_top
-least_of code l e = rw e
-
--- low bits that are none of 0 to 6 are 7
-pub seven : (l : ℕ) → l ≤ 7 → (l ≡ 0 → ⊥) → (l ≡ 1 → ⊥) → (l ≡ 2 → ⊥) → (l ≡ 3 → ⊥) → (l ≡ 4 → ⊥) → (l ≡ 5 → ⊥) → (l ≡ 6 → ⊥) → l ≡ 7
-seven zero s a b c d e f g = absurd (a refl)
-seven (suc zero) s a b c d e f g = absurd (b refl)
-seven (suc (suc zero)) s a b c d e f g = absurd (c refl)
-seven (suc (suc (suc zero))) s a b c d e f g = absurd (d refl)
-seven (suc (suc (suc (suc zero)))) s a b c d e f g = absurd (e refl)
-seven (suc (suc (suc (suc (suc zero))))) s a b c d e f g = absurd (f refl)
-seven (suc (suc (suc (suc (suc (suc zero)))))) s a b c d e f g = absurd (g refl)
-seven (suc (suc (suc (suc (suc (suc (suc l))))))) s a b c d e f g = omega arith
-
 pub least-small : (code : ℕ) → least_top code ≤ 256
 unfolding least_top
 least-small code = small (code % 8) (omega arith)
