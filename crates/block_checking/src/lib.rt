@@ -2,6 +2,7 @@
 #![tactic(auto)]
 
 ghost use Rattle.std.specs.Prelude.{◌≡◌, ◌+◌, ◌/◌, ◌%◌, ◌≤◌, ◌<◌, length, get_or, drop};
+ghost use Rattle.std.specs.List.{sum_by};
 ghost use Rattle.block_rules.specs.Codes.{written};
 ghost use Rattle.block_rules.specs.Block.{count, halves, counted_codes, residual_length};
 ghost use Rattle.block_rules.specs.Numbers.{filler_stands};
@@ -28,8 +29,8 @@ pub fn half(block: &[u8], i: usize) -> u8
     if i % 2 == 0 { byte / 16 } else { byte % 16 }
 }
 
-// How many residual bytes the two codes of a byte have. In eight bits, so that the loop below does
-// many bytes at a time.
+// How many residual bytes the two codes of a byte have. In eight bits, so that many bytes
+// are done at a time.
 fn both_written(byte: u8) -> u32
     ensures { (result ≡ written (byte / 16) + written (byte % 16)) × (result ≤ 16) }
 {
@@ -38,22 +39,24 @@ fn both_written(byte: u8) -> u32
     (16 - high - high / 4 - low - low / 4) as u32
 }
 
+// How many residual bytes the codes of whole code bytes have.
+fn all_written(bytes: &[u8]) -> u32
+    requires { length bytes.now ≤ 32768 }
+    ensures { result ≡ sum_by (λ byte. written (byte / 16) + written (byte % 16)) bytes.now }
+{
+    bytes.iter().map(|byte| both_written(*byte)).sum()
+}
+
 // How many residual bytes the counted codes have.
 fn residual_length(block: &[u8], n: usize) -> usize
     requires { Counted block.now n }
     ensures { result ≡ residual_length (counted_codes block.now) }
 {
-    let pairs = n / 2;
-    let mut sum: u32 = 0;
-    let mut j = 0;
-    while j < pairs {
-        sum += both_written(block[8 + j]);
-        j += 1;
-    }
+    let paired = all_written(&block[8..8 + n / 2]) as usize;
     if n % 2 == 1 {
-        return sum as usize + block_choice::written(half(block, n - 1));
+        return paired + block_choice::written(half(block, n - 1));
     }
-    sum as usize
+    paired
 }
 
 // Whether an odd count has 7 as the last low half.
@@ -61,11 +64,7 @@ fn filler_stands(block: &[u8], n: usize) -> bool
     requires { Counted block.now n }
     ensures { result ≡ filler_stands block.now }
 {
-    if n % 2 == 1 {
-        half(block, n) == 7
-    } else {
-        true
-    }
+    n % 2 == 0 || half(block, n) == 7
 }
 
 // Checks a block. Answers its word count.

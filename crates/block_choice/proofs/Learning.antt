@@ -6,20 +6,15 @@ use native.Mathlib.Omega.{arith}
 use lib.Bits.{bit_and, bit_xor, and_mask}
 use lib.ListN.{length, set}
 use lib.Pow.{pow_mono, shl_exact}
-use Rattle.words.specs.Words.{sub64, shifted_left, low_bits, xor}
+use Rattle.words.specs.Words.{sub64, shifted_left, shifted_right, low_bits, xor}
 use Rattle.block_rules.specs.Predictors.{difference, next_fcm_hash, next_dfcm_hash, learn}
 use Rattle.block_rules.specs.Numbers.{t_of}
-use Rattle.block_rules.specs.Inside.{memory, Sized}
+use Rattle.block_rules.specs.Inside.{memory}
 use Rattle.block_rules.specs.declared.Carry.{Carry}
 use Rattle.block_choice.specs.Inside.{Masked}
 
-pub masked : (f d h : ℕ) → Sized f d → h < f → Masked (f - 1) h
-masked f d h s l =
-    let e : f - 1 + 1 ≡ f = omega arith in
-    record { small = rw e s.small; power = rw e s.power; below = omega arith }
-
 -- shifted by a, with w, under the mask
-pub hashed : (a mask h w : ℕ) → a ≤ 6 → Masked mask h → bit_and (bit_xor ((h * 2 ^ a) % 2 ^ 64) w) mask ≡ low_bits (t_of (mask + 1)) (xor (shifted_left a h) w)
+pub hashed : (a mask h w : ℕ) → a ≤ 48 → Masked mask h → bit_and (bit_xor ((h * 2 ^ a) % 2 ^ 64) w) mask ≡ low_bits (t_of (mask + 1)) (xor (shifted_left a h) w)
 unfolding low_bits xor shifted_left
 hashed a mask h w l s =
     let t = t_of (mask + 1) in
@@ -30,7 +25,8 @@ hashed a mask h w l s =
     ∙ ap (λ (k : ℕ). bit_xor k w % 2 ^ t) (shl_exact 16 a 64 b (omega arith))
 
 pub learnt_of : (f d : List ℕ) (c : Carry) (v mask s hf hd : ℕ)
-    → mask + 1 ≡ length f → s ≡ sub64 v c.last → hf ≡ next_fcm_hash (t_of (mask + 1)) c.fcm v → hd ≡ next_dfcm_hash (t_of (mask + 1)) c.dfcm s
+    → mask + 1 ≡ length f → s ≡ sub64 v c.last → hf ≡ low_bits (t_of (mask + 1)) (xor (shifted_left 6 c.fcm) (shifted_right 48 v))
+    → hd ≡ low_bits (t_of (mask + 1)) (xor (shifted_left 2 c.dfcm) (shifted_right 40 s))
     → memory (set f c.fcm v) (set d c.dfcm s) (record { fcm = hf; dfcm = hd; last = v }) ≡ learn (t_of (length f)) (memory f d c) v
-unfolding learn difference
+unfolding learn difference next_fcm_hash next_dfcm_hash
 learnt_of f d c v mask s hf hd e p q r = cc

@@ -1,26 +1,20 @@
 // What both predictors learn from a word.
-ghost use Rattle.std.specs.Prelude.{◌≡◌, ◌+◌, length};
-ghost use Rattle.block_rules.specs.Predictors.{next_fcm_hash, next_dfcm_hash, learn};
+ghost use Rattle.std.specs.Prelude.{◌≡◌, ◌+◌, ◌≤◌, ◌<◌, length};
+ghost use Rattle.words.specs.Words.{low_bits, xor, shifted_left, shifted_right};
+ghost use Rattle.block_rules.specs.Predictors.{learn};
 ghost use Rattle.block_rules.specs.Numbers.{t_of};
 ghost use Rattle.block_rules.specs.Inside.{memory, Ready};
 ghost use Rattle.block_choice.specs.Inside.{Masked};
 
 use block_rules::Carry;
 
-// The new fcm hash after a word. The mask keeps its low t bits.
-fn next_fcm_hash(mask: usize, hash: usize, word: u64) -> usize
-    requires { Masked mask hash }
-    ensures { result ≡ next_fcm_hash (t_of (mask + 1)) hash word }
+// The new hash of a predictor after what it learnt: the old one shifted left, with the high bits of what
+// was learnt. The mask keeps its low t bits.
+fn next_hash<const LEFT: u32, const RIGHT: u32>(mask: usize, hash: usize, learnt: u64) -> usize
+    requires { Masked mask hash × (LEFT ≤ 48) × (RIGHT < 64) }
+    ensures { result ≡ low_bits (t_of (mask + 1)) (xor (shifted_left LEFT hash) (shifted_right RIGHT learnt)) }
 {
-    ((hash << 6) ^ ((word >> 48) as usize)) & mask
-}
-
-// The new dfcm hash after a difference.
-fn next_dfcm_hash(mask: usize, hash: usize, difference: u64) -> usize
-    requires { Masked mask hash }
-    ensures { result ≡ next_dfcm_hash (t_of (mask + 1)) hash difference }
-{
-    ((hash << 2) ^ ((difference >> 40) as usize)) & mask
+    ((hash << LEFT) ^ ((learnt >> RIGHT) as usize)) & mask
 }
 
 // Both predictors learn a word.
@@ -36,8 +30,8 @@ pub fn learn(fcm: &mut [u64], dfcm: &mut [u64], carry: Carry, word: u64) -> Carr
     fcm[fcm_hash] = word;
     dfcm[dfcm_hash] = difference;
     Carry {
-        fcm: next_fcm_hash(mask, fcm_hash, word),
-        dfcm: next_dfcm_hash(mask, dfcm_hash, difference),
+        fcm: next_hash::<6, 48>(mask, fcm_hash, word),
+        dfcm: next_hash::<2, 40>(mask, dfcm_hash, difference),
         last: word,
     }
 }

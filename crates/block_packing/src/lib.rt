@@ -81,8 +81,7 @@ fn put_words(
         dfcm: 0,
         last: 0,
     };
-    let mut k: usize = 0;
-    while k < n / 2 {
+    for k in 0..n / 2 {
         let pair = block_staging::stage_pair(fcm, dfcm, stage, carry, staged, words, 2 * k);
         out[8 + k] = pair.codes;
         let place = block_staging::make_room(
@@ -97,7 +96,6 @@ fn put_words(
         staged = place.staged;
         let next = pair.carry;
         carry = next;
-        k += 1;
     }
     put_rest(words, fcm, dfcm, out, stage, Rest { carry, at, staged })
 }

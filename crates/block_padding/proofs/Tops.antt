@@ -5,14 +5,14 @@ use mathlib.Core.List.{List, [], ◌∷◌}
 use Prim.Native.Nat.{ℕ, zero, suc, ◌+◌, ◌-◌, ◌*◌, ◌/◌, ◌%◌, ◌^◌, ◌≤◌, ◌<◌}
 use native.Mathlib.Omega.{arith}
 use lib.Dec.{ltb, eqb}
-use lib.ListN.{length, get_or, drop}
+use lib.ListN.{length, get_or, take, drop}
 use borrow.Author.Tests.{le-ltb, ne_eqb}
 use Rattle.words.proofs.Tests.{either, same_test}
 use Rattle.block_rules.specs.Codes.{written, padded}
 use Rattle.block_rules.specs.Block.{halves, counted_codes, residual_length, residuals_at, coded_in, none_padded}
 use Rattle.block_rules.specs.Inside.{Spanned, coded_at}
 use Rattle.block_rules.proofs.Padded.{bytes}
-use Rattle.block_rules.proofs.Get.{half_high, half_low, rest, rest-next, span_next, rest-none}
+use Rattle.block_rules.proofs.Get.{half_high, pairs_end, pairs_high, pairs_low, rest, rest-next, span_next, rest-none}
 use Rattle.block_padding.specs.Inside.{least_top}
 
 -- ---- one code
@@ -32,26 +32,6 @@ by_tops (suc (suc (suc (suc (suc zero))))) x s = same_test (x / 2 ^ 48) (256 ^ 1
 by_tops (suc (suc (suc (suc (suc (suc zero)))))) x s = same_test (x / 2 ^ 56) (256 ^ 0) (x / 2 ^ 48) 256 (λ q. omega arith) (λ q. omega arith)
 by_tops (suc (suc (suc (suc (suc (suc (suc zero))))))) x s = sym (le-ltb (x / 2 ^ 48) 0 (omega arith))
 by_tops (suc (suc (suc (suc (suc (suc (suc (suc l)))))))) x s = absurd (omega arith)
-
--- what the low bits ask
-pub bytes_of : (code l : ℕ) → code % 8 ≡ l → bytes l ≡ written code
-unfolding written
-bytes_of code l e = rw e
-
-pub least_of : (code l : ℕ) → code % 8 ≡ l → least l ≡ least_top code
-unfolding least_top
-least_of code l e = rw e
-
--- low bits that are none of 0 to 6 are 7
-pub seven : (l : ℕ) → l ≤ 7 → (l ≡ 0 → ⊥) → (l ≡ 1 → ⊥) → (l ≡ 2 → ⊥) → (l ≡ 3 → ⊥) → (l ≡ 4 → ⊥) → (l ≡ 5 → ⊥) → (l ≡ 6 → ⊥) → l ≡ 7
-seven zero s a b c d e f g = absurd (a refl)
-seven (suc zero) s a b c d e f g = absurd (b refl)
-seven (suc (suc zero)) s a b c d e f g = absurd (c refl)
-seven (suc (suc (suc zero))) s a b c d e f g = absurd (d refl)
-seven (suc (suc (suc (suc zero)))) s a b c d e f g = absurd (e refl)
-seven (suc (suc (suc (suc (suc zero))))) s a b c d e f g = absurd (f refl)
-seven (suc (suc (suc (suc (suc (suc zero)))))) s a b c d e f g = absurd (g refl)
-seven (suc (suc (suc (suc (suc (suc (suc l))))))) s a b c d e f g = omega arith
 
 pub least-small : (code : ℕ) → least_top code ≤ 256
 unfolding least_top
@@ -106,17 +86,20 @@ module _ (b : List ℕ) (n at faults i : ℕ) (s : Spanned b n) (w : Walking b n
       fault false z = z
 
 -- the two codes of a byte, by the places of their two top bytes
-module _ (b : List ℕ) (n tops high low j byte first second : ℕ) (s : Spanned b n) (w : Walking b n (tops + 2) (high + low) (2 * j)) (h : j < n / 2) (e : byte ≡ get_or b (8 + j) 0)
-    (f : first ≡ written (byte / 16)) (g : second ≡ written (byte % 16)) where
+module _ (b : List ℕ) (n tops high low j byte first second : ℕ) (s : Spanned b n) (w : Walking b n (tops + 2) (high + low) (2 * j)) (turn : j < length (take (8 + n / 2 - 8) (drop 8 b)))
+    (is : byte ≡ get_or (take (8 + n / 2 - 8) (drop 8 b)) j 0) (f : first ≡ written (byte / 16)) (g : second ≡ written (byte % 16)) where
+  h : j < n / 2
+  h = omega (arith, turn, pairs_end b n s.counted)
+
   after_first : (k : ℕ) → k ≡ cond (padded (coded_at b (tops + first + 2 - written (byte / 16)) (byte / 16))) 1 0 → Walking b n (tops + first + 2) (high + low + k) (2 * j + 1)
   after_first k p =
       let at : tops + first + 2 - written (byte / 16) ≡ tops + 2 = omega arith in
       let next : tops + first + 2 ≡ tops + 2 + written (byte / 16) = omega arith in
-      rw next (walking_on b n (tops + 2) (high + low) (2 * j) s w (byte / 16) (omega arith) (half_high b j byte e) k (rw at at p))
+      rw next (walking_on b n (tops + 2) (high + low) (2 * j) s w (byte / 16) (omega (arith, h)) (pairs_high b n s.counted j byte turn is) k (rw at at p))
 
   pub pair_within : tops + first + second + 2 ≤ length b
   pair_within =
-      let within = walking_within b n (tops + first + 2) _ (2 * j + 1) s (after_first _ refl) (byte % 16) (omega arith) (half_low b j byte e) in
+      let within = walking_within b n (tops + first + 2) _ (2 * j + 1) s (after_first _ refl) (byte % 16) (omega (arith, h)) (pairs_low b n s.counted j byte turn is) in
       omega (arith, within)
 
   pub walking_pair : (k l : ℕ) → k ≡ cond (padded (coded_at b (tops + first + 2 - written (byte / 16)) (byte / 16))) 1 0
@@ -127,21 +110,25 @@ module _ (b : List ℕ) (n tops high low j byte first second : ℕ) (s : Spanned
       let next : tops + first + second + 2 ≡ tops + first + 2 + written (byte % 16) = omega arith in
       let i : 2 * (j + 1) ≡ 2 * j + 1 + 1 = omega arith in
       let faults : high + k + (low + l) ≡ high + low + k + l = omega arith in
-      rw (next, i, faults) (walking_on b n (tops + first + 2) (high + low + k) (2 * j + 1) s (after_first k p) (byte % 16) (omega arith) (half_low b j byte e) l (rw at at q))
+      rw (next, i, faults) (walking_on b n (tops + first + 2) (high + low + k) (2 * j + 1) s (after_first k p) (byte % 16) (omega (arith, h)) (pairs_low b n s.counted j byte turn is) l (rw at at q))
 
-pub walking_ends : (b : List ℕ) (n at faults i : ℕ) → Spanned b n → Walking b n at faults i → n ≤ i → eqb faults 0 ≡ none_padded (coded_in b)
-walking_ends b n at faults i s w h = sym (rw (rest-none b n i at s.counted h) at w.tells ∙ whole (eqb faults 0))
+ended : (b : List ℕ) (n at faults i : ℕ) → Spanned b n → Walking b n at faults i → n ≤ i → eqb faults 0 ≡ none_padded (coded_in b)
+ended b n at faults i s w h = sym (rw (rest-none b n i at s.counted h) at w.tells ∙ whole (eqb faults 0))
   where
     whole : (v : Bool) → (v && true) ≡ v
     whole true = refl
     whole false = refl
 
+pub walking_ends : (b : List ℕ) (n at faults j : ℕ) → Spanned b n → Walking b n at faults (2 * j) → length (take (8 + n / 2 - 8) (drop 8 b)) ≤ j → (n % 2 ≡ 1 → ⊥)
+    → eqb faults 0 ≡ none_padded (coded_in b)
+walking_ends b n at faults j s w end even = ended b n at faults (2 * j) s w (omega (arith, end, pairs_end b n s.counted))
+
 -- the last code, where the count is odd
-module _ (b : List ℕ) (n tops faults j byte bytes' : ℕ) (s : Spanned b n) (w : Walking b n (tops + 2) faults (2 * j)) (h : n / 2 ≤ j) (o : n % 2 ≡ 1) (e : byte ≡ get_or b (8 + n / 2) 0)
-    (f : bytes' ≡ written (byte / 16)) where
+module _ (b : List ℕ) (n tops faults j byte bytes' : ℕ) (s : Spanned b n) (w : Walking b n (tops + 2) faults (2 * j)) (end : length (take (8 + n / 2 - 8) (drop 8 b)) ≤ j) (o : n % 2 ≡ 1)
+    (e : byte ≡ get_or b (8 + n / 2) 0) (f : bytes' ≡ written (byte / 16)) where
   last_code : byte / 16 ≡ get_or (halves (drop 8 b)) (2 * j) 0
   last_code =
-      let k : n / 2 ≡ j = omega (arith, w.upto) in
+      let k : n / 2 ≡ j = omega (arith, w.upto, end, pairs_end b n s.counted) in
       half_high b j byte (rw k at e)
 
   pub last_within : tops + bytes' + 2 ≤ length b
@@ -152,4 +139,4 @@ module _ (b : List ℕ) (n tops faults j byte bytes' : ℕ) (s : Spanned b n) (w
   pub walking_last : (k : ℕ) → k ≡ cond (padded (coded_at b (tops + bytes' + 2 - written (byte / 16)) (byte / 16))) 1 0 → eqb (faults + k) 0 ≡ none_padded (coded_in b)
   walking_last k q =
       let at : tops + bytes' + 2 - written (byte / 16) ≡ tops + 2 = omega arith in
-      walking_ends b n _ _ (2 * j + 1) s (walking_on b n (tops + 2) faults (2 * j) s w (byte / 16) (omega (arith, w.upto)) last_code k (rw at at q)) (omega arith)
+      ended b n _ _ (2 * j + 1) s (walking_on b n (tops + 2) faults (2 * j) s w (byte / 16) (omega (arith, w.upto)) last_code k (rw at at q)) (omega (arith, end, pairs_end b n s.counted))

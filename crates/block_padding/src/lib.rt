@@ -7,24 +7,11 @@ ghost use Rattle.block_rules.specs.Block.{coded_in, none_padded};
 ghost use Rattle.block_rules.specs.Inside.{Spanned, coded_at};
 ghost use Rattle.block_padding.specs.Inside.{least_top};
 
-// How many residual bytes a code has. An arm for each of the low bits, here and below, so that the
-// compiler makes a table of it: a walk over all codes has little else to do.
-fn residual_bytes(code: u8) -> usize
-    ensures { result ≡ written code }
-{
-    match code % 8 {
-        0 => 8,
-        1 => 7,
-        2 => 6,
-        3 => 5,
-        4 => 3,
-        5 => 2,
-        6 => 1,
-        _ => 0,
-    }
-}
+use block_choice::written_by_table;
 
-// The least number that the two top residual bytes of a code may make.
+// The least number that the two top residual bytes of a code may make: a table, as block_choice's of the
+// bytes written, since a walk over all codes has little else to do.
+#[tactic(auto, unfolding(crate::specs::Inside::least_top))]
 fn least_top(code: u8) -> u64
     ensures { result ≡ least_top code }
 {
@@ -61,19 +48,16 @@ pub fn none_padded(block: &[u8], n: usize) -> bool
     let mut tops = 6 + (n + 1) / 2;
     let mut high_faults: u64 = 0;
     let mut low_faults: u64 = 0;
-    let mut j = 0;
-    while j < pairs {
-        let byte = block[8 + j];
-        let middle = tops + residual_bytes(byte / 16);
-        tops = middle + residual_bytes(byte % 16);
+    for &byte in &block[8..8 + pairs] {
+        let middle = tops + written_by_table(byte / 16);
+        tops = middle + written_by_table(byte % 16);
         high_faults += padded(block, middle, byte / 16);
         low_faults += padded(block, tops, byte % 16);
-        j += 1;
     }
     let faults = high_faults + low_faults;
     if n % 2 == 1 {
         let code = block[8 + pairs] / 16;
-        return faults + padded(block, tops + residual_bytes(code), code) == 0;
+        return faults + padded(block, tops + written_by_table(code), code) == 0;
     }
     faults == 0
 }

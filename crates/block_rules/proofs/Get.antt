@@ -2,7 +2,7 @@
 use mathlib.Core.Path.{◌≡◌, refl, sym, ap, ◌∙◌}
 use mathlib.Core.List.{List, [], ◌∷◌}
 use mathlib.Core.Bool.{cond}
-use Prim.Native.Nat.{ℕ, zero, suc, ◌+◌, ◌*◌, ◌/◌, ◌%◌, ◌≤◌, ◌<◌}
+use Prim.Native.Nat.{ℕ, zero, suc, ◌+◌, ◌-◌, ◌*◌, ◌/◌, ◌%◌, ◌≤◌, ◌<◌}
 use native.Mathlib.Omega.{arith}
 use native.Mathlib.Numerals.{add-one}
 use lib.Dec.{eqb}
@@ -43,10 +43,25 @@ half_high b j byte e =
     let i : 2 * j / 2 ≡ j = omega arith in
     rw e (rw i at (half_even b (2 * j) (omega arith)))
 
-pub half_low : (b : List ℕ) (j byte : ℕ) → byte ≡ get_or b (8 + j) 0 → byte % 16 ≡ get_or (halves (drop 8 b)) (2 * j + 1) 0
+half_low : (b : List ℕ) (j byte : ℕ) → byte ≡ get_or b (8 + j) 0 → byte % 16 ≡ get_or (halves (drop 8 b)) (2 * j + 1) 0
 half_low b j byte e =
     let i : (2 * j + 1) / 2 ≡ j = omega arith in
     rw e (rw i at (half_odd b (2 * j + 1) (λ z. omega arith)))
+
+-- the code bytes that hold two codes each, as a slice of the block, and the two halves of one
+module _ (b : List ℕ) (n : ℕ) (c : Counted b n) where
+  pub pairs_end : length (take (8 + n / 2 - 8) (drop 8 b)) ≡ n / 2
+  pairs_end = simp (length-take, length-drop) (omega (arith, c.codes))
+
+  module _ (j byte : ℕ) (h : j < length (take (8 + n / 2 - 8) (drop 8 b))) (is : byte ≡ get_or (take (8 + n / 2 - 8) (drop 8 b)) j 0) where
+    at : byte ≡ get_or b (8 + j) 0
+    at = is ∙ get_or-take (8 + n / 2 - 8) (drop 8 b) j 0 (omega (arith, h, pairs_end)) ∙ get_or-drop 8 b j 0
+
+    pub pairs_high : byte / 16 ≡ get_or (halves (drop 8 b)) (2 * j) 0
+    pairs_high = half_high b j byte at
+
+    pub pairs_low : byte % 16 ≡ get_or (halves (drop 8 b)) (2 * j + 1) 0
+    pairs_low = half_low b j byte at
 
 length-halves : (bs : List ℕ) → length (halves bs) ≡ 2 * length bs
 length-halves [] = refl

@@ -76,7 +76,7 @@ fn stage_chosen(
     store_eight(stage, staged, coded.residual);
     Staging {
         code,
-        staged: staged + block_choice::written(code),
+        staged: staged + block_choice::written_by_table(code),
     }
 }
 

@@ -1,17 +1,18 @@
--- Counting the codes that name dfcm, a code byte a turn.
-use mathlib.Core.Path.{◌≡◌}
-use mathlib.Core.List.{List, [], ◌∷◌}
-use Prim.Native.Nat.{ℕ, ◌+◌, ◌-◌, ◌*◌, ◌/◌, ◌%◌, ◌≤◌, ◌<◌}
-use native.Mathlib.Omega.{arith}
+-- Counting the codes that name dfcm, by their top bits.
+use Rattle.std.proofs.Common.{◌≡◌, ℕ, ◌+◌, ◌-◌, ◌*◌, ◌/◌, ◌%◌, ◌≤◌, List, [], ◌∷◌, ◌++◌, cond, length, get_or, take, drop, refl, sym, ap, ◌∙◌, arith, length-take-le, length-drop}
 use lib.Dec.{leb}
-use lib.ListN.{get_or, drop}
 use borrow.Author.Tests.{leb-true, leb-false}
+use Rattle.std.specs.List.{sum_by, IsLastAndRest}
+use Rattle.std.proofs.lemmas.List.{take-take, get_or-take, get_or_push}
+use Rattle.std.proofs.lemmas.List.Sums.{sum_by-cons, sum_by_push}
+use Rattle.std.proofs.Math.Seq.{get_or-drop, take-append_seam}
 use Rattle.words.proofs.Tests.{either}
 use Rattle.block_rules.specs.Forms.{names_dfcm}
 use Rattle.block_rules.specs.Block.{halves, counted_codes}
-use Rattle.block_tallying.specs.Tally.{dfcm_words}
 use Rattle.block_rules.specs.Inside.{Counted}
-use Rattle.block_rules.proofs.Get.{half_high, half_low, counted_next, counted_none}
+use Rattle.block_rules.proofs.Get.{half_high, counted_none}
+use Rattle.block_checking.proofs.Weighing.{weight_even, weight_odd}
+use Rattle.block_tallying.specs.Tally.{dfcm_words}
 
 -- ---- top bits
 
@@ -26,60 +27,41 @@ both_tops byte h = omega (arith, top_bit (byte / 16) (omega arith), top_bit (byt
 pub high_top : (byte : ℕ) → byte ≤ 255 → byte / 128 ≡ dfcm_words (byte / 16 ∷ [])
 high_top byte h = omega (arith, top_bit (byte / 16) (omega arith))
 
--- ---- the loop
+-- ---- all codes
 
--- counting on from code i gives what all codes count
-pub record Counting (b : List ℕ) (n sum i : ℕ) : Type 0 where
-  pub upto : i ≤ n
-  pub small : sum ≤ i
-  pub whole : sum + dfcm_words (drop i (counted_codes b)) ≡ dfcm_words (counted_codes b)
+-- how much a code counts, and the two of a byte
+abbrev of_code : ℕ → ℕ
+of_code c = cond (names_dfcm c) 1 0
 
-pub counting_starts : (b : List ℕ) (n : ℕ) → Counting b n 0 0
-counting_starts b n = record { upto = omega arith; small = omega arith; whole = omega arith }
+abbrev pub of_byte : ℕ → ℕ
+of_byte byte = dfcm_words (byte / 16 ∷ byte % 16 ∷ [])
 
-module _ (b : List ℕ) (n : ℕ) (u : Counted b n) where
-  one_at_most : (c : ℕ) → dfcm_words (c ∷ []) ≤ 1
-  one_at_most c = either (names_dfcm c) (λ e. rw e (omega arith)) (λ e. rw e (omega arith))
+counted-sum : (cs : List ℕ) → dfcm_words cs ≡ sum_by of_code cs
+counted-sum [] = refl
+counted-sum (c ∷ cs) = omega (arith, counted-sum cs, sum_by-cons of_code c cs)
 
-  counting_on : (sum i c : ℕ) → i < n → Counting b n sum i → c ≡ get_or (halves (drop 8 b)) i 0 → Counting b n (sum + dfcm_words (c ∷ [])) (i + 1)
-  counting_on sum i c h g e =
-      record {
-        upto = omega arith;
-        small = omega (arith, g.small, one_at_most c);
-        whole = rw e (omega (arith, rw (counted_next b n i u h) at g.whole));
-      }
-
-  -- two codes a turn
-  pub counting_two : (sum j byte s : ℕ) → 2 * j + 1 < n → Counting b n sum (2 * j) → byte ≡ get_or b (8 + j) 0 → s ≡ dfcm_words (byte / 16 ∷ byte % 16 ∷ [])
-      → Counting b n (sum + s) (2 * (j + 1))
-  counting_two sum j byte s h g e q =
-      let one = counting_on sum (2 * j) (byte / 16) (omega arith) g (half_high b j byte e) in
-      let two = counting_on _ (2 * j + 1) (byte % 16) h one (half_low b j byte e) in
-      record { upto = omega arith; small = omega (arith, two.small, q); whole = rw (ends j) (omega (arith, two.whole, q)) }
-    where
-      ends : (j : ℕ) → 2 * (j + 1) ≡ 2 * j + 1 + 1
-      ends j = omega arith
-
-  counting_ends : (sum i : ℕ) → n ≤ i → Counting b n sum i → sum ≡ dfcm_words (counted_codes b)
-  counting_ends sum i h g = omega (arith, rw (counted_none b n i u h) at g.whole)
-
-  -- the last byte holds two codes, or one and the filler
-  module _ (sum j last byte : ℕ) (some : n ≡ 0 → ⊥) (is : last ≡ (n - 1) / 2) (upto : j ≤ last) (from : last ≤ j) (g : Counting b n sum (2 * j)) (e : byte ≡ get_or b (8 + last) 0) where
-    at : j ≡ last
-    at = omega arith
-
-    read : byte ≡ get_or b (8 + j) 0
-    read = rw at e
-
-    pub last_two : (s : ℕ) → (n % 2 ≡ 1 → ⊥) → s ≡ dfcm_words (byte / 16 ∷ byte % 16 ∷ []) → sum + s ≡ dfcm_words (counted_codes b)
-    last_two s even q =
-        let h : 2 * (j + 1) ≡ n = omega (arith, at, is, some) in
-        counting_ends _ (2 * (j + 1)) (omega (arith, h)) (counting_two sum j byte s (omega (arith, h)) g read q)
-
-    pub last_one : (s : ℕ) → n % 2 ≡ 1 → s ≡ dfcm_words (byte / 16 ∷ []) → sum + s ≡ dfcm_words (counted_codes b)
-    last_one s odd q =
-        let h : 2 * j + 1 ≡ n = omega (arith, at, is) in
-        rw q (counting_ends _ (2 * j + 1) (omega (arith, h)) (counting_on sum (2 * j) (byte / 16) (omega (arith, h)) g (half_high b j byte read)))
+both : (byte : ℕ) → of_byte byte ≡ of_code (byte / 16) + of_code (byte % 16)
+both byte = omega arith
 
 pub none-counted : (b : List ℕ) (n : ℕ) → Counted b n → n ≡ 0 → 0 ≡ dfcm_words (counted_codes b)
-none-counted b n u z = counting_ends b n u 0 0 (omega arith) (counting_starts b n)
+none-counted b n u z = rw (counted_none b n 0 u (omega arith))
+
+-- the last code byte stands by itself
+module _ (b : List ℕ) (n : ℕ) (u : Counted b n) (k last : ℕ) (before : List ℕ) (is : k ≡ (n + 1) / 2) (e : IsLastAndRest (take k (drop 8 b)) last before) where
+  -- of an even count it holds two codes
+  pub last_two : (sum s : ℕ) → (n % 2 ≡ 1 → ⊥) → sum ≡ sum_by of_byte before → s ≡ of_byte last → sum + s ≡ dfcm_words (counted_codes b)
+  last_two sum s even p q =
+      let h : n / 2 ≡ k = omega arith in
+      let whole : take (n / 2) (drop 8 b) ≡ before ++ last ∷ [] = rw h e.0 in
+      omega (arith, counted-sum (counted_codes b), weight_even of_code of_byte both b n u even, ap (sum_by of_byte) whole, sum_by_push of_byte before last)
+
+  -- of an odd count one, and the filler
+  pub last_one : (sum s : ℕ) → n % 2 ≡ 1 → sum ≡ sum_by of_byte before → s ≡ dfcm_words (last / 16 ∷ []) → sum + s ≡ dfcm_words (counted_codes b)
+  last_one sum s odd p q =
+      let long : length before ≡ n / 2 = omega (arith, length-take-le k (drop 8 b) (omega (arith, u.codes, length-drop 8 b)), e.1) in
+      let firsts : take (n / 2) (drop 8 b) ≡ before = sym (take-take (n / 2) k (drop 8 b) (omega arith)) ∙ rw (e.0, ← long) (take-append_seam before (last ∷ [])) in
+      let at : last ≡ get_or b (8 + n / 2) 0 =
+      sym (get_or_push before last 0 (n / 2) long) ∙ rw (← e.0) (get_or-take k (drop 8 b) (n / 2) 0 (omega arith) ∙ get_or-drop 8 b (n / 2) 0) in
+      let i : 2 * (n / 2) ≡ n - 1 = omega arith in
+      let code : last / 16 ≡ get_or (halves (drop 8 b)) (n - 1) 0 = rw i at (half_high b (n / 2) last at) in
+      omega (arith, q, rw (firsts, ← code) at (weight_odd of_code of_byte both b n u odd), counted-sum (counted_codes b))

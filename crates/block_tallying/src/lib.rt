@@ -1,7 +1,8 @@
 // The tally of a block, from its codes.
 #![tactic(auto)]
 
-ghost use Rattle.std.specs.Prelude.{◌≡◌, [], ◌∷◌, ◌/◌, ◌%◌};
+ghost use Rattle.std.specs.Prelude.{◌≡◌, ◌≤◌, [], ◌∷◌, ◌/◌, ◌%◌, length};
+ghost use Rattle.std.specs.List.{sum_by};
 ghost use Rattle.block_rules.specs.Block.{counted_codes};
 ghost use Rattle.block_tallying.specs.Tally.{dfcm_words, tally, no_tally};
 ghost use Rattle.block_rules.specs.Numbers.{form_number};
@@ -12,9 +13,9 @@ mod answer;
 pub use answer::Tally;
 
 // How many of the two codes of a byte take their word from dfcm: their top bits, added in eight bits and
-// then widened, so that the loop below does many bytes at a time.
+// then widened, so that many bytes are done at a time.
 fn dfcm_in_byte(byte: u8) -> u16
-    ensures { result ≡ dfcm_words (byte / 16 ∷ byte % 16 ∷ []) }
+    ensures { (result ≡ dfcm_words (byte / 16 ∷ byte % 16 ∷ [])) × (result ≤ 2) }
 {
     (byte / 128 + byte / 8 % 2) as u16
 }
@@ -26,28 +27,28 @@ fn dfcm_in_high_half(byte: u8) -> u16
     (byte / 128) as u16
 }
 
+// How many codes of whole code bytes do. The sum has room in sixteen bits, which is faster than in more.
+fn dfcm_in_bytes(bytes: &[u8]) -> u16
+    requires { length bytes.now ≤ 32767 }
+    ensures { result ≡ sum_by (λ byte. dfcm_words (byte / 16 ∷ byte % 16 ∷ [])) bytes.now }
+{
+    bytes.iter().map(|byte| dfcm_in_byte(*byte)).sum()
+}
+
 // How many of the counted codes take their word from dfcm. The last code byte stands by itself: of an
-// odd count its low half is the filler, and without it the sum has room in sixteen bits, which is
-// faster than in more.
+// odd count its low half is the filler, and the bytes before it are few enough for sixteen bits.
 fn dfcm_words(block: &[u8], n: usize) -> usize
     requires { Counted block.now n }
     ensures { result ≡ dfcm_words (counted_codes block.now) }
 {
-    if n == 0 {
+    let Some((last, before)) = block[8..8 + (n + 1) / 2].split_last() else {
         return 0;
-    }
-    let before = (n - 1) / 2;
-    let mut sum: u16 = 0;
-    let mut j: usize = 0;
-    while j < before {
-        sum += dfcm_in_byte(block[8 + j]);
-        j += 1;
-    }
-    let last = block[8 + before];
+    };
+    let sum = dfcm_in_bytes(before) as usize;
     if n % 2 == 1 {
-        return sum as usize + dfcm_in_high_half(last) as usize;
+        return sum + dfcm_in_high_half(*last) as usize;
     }
-    sum as usize + dfcm_in_byte(last) as usize
+    sum + dfcm_in_byte(*last) as usize
 }
 
 // The tally of a block that can be read. Only dfcm's words are counted: the others are fcm's, and all
@@ -69,9 +70,5 @@ pub fn tally(block: &[u8]) -> Tally
 pub fn no_tally() -> Tally
     ensures { result ≡ no_tally }
 {
-    Tally {
-        fcm_words: 0,
-        dfcm_words: 0,
-        residual_bytes: 0,
-    }
+    Tally::default()
 }

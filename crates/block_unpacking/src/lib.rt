@@ -75,7 +75,6 @@ fn get_words(block: &[u8], n: usize, fcm: &mut [u64], dfcm: &mut [u64], words: &
     requires { Getting block.now n fcm.old dfcm.old words.old }
     ensures { Gets (t_of (length fcm.old)) block.now words.old fcm.new dfcm.new words.new }
 {
-    let pairs = n / 2;
     let mut place = Place {
         at: 8 + (n + 1) / 2,
         carry: Carry {
@@ -84,12 +83,9 @@ fn get_words(block: &[u8], n: usize, fcm: &mut [u64], dfcm: &mut [u64], words: &
             last: 0,
         },
     };
-    let mut j = 0;
-    while j < pairs {
-        let byte = block[8 + j];
+    for (j, &byte) in block[8..8 + n / 2].iter().enumerate() {
         let middle = get_word(block, place, byte / 16, fcm, dfcm, words, 2 * j);
         place = get_word(block, middle, byte % 16, fcm, dfcm, words, 2 * j + 1);
-        j += 1;
     }
     if n % 2 == 1 {
         get_word(

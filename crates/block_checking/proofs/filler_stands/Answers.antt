@@ -1,8 +1,9 @@
+use Rattle.std.proofs.Common.{arith}
 use Rattle.block_checking.proofs.Adding.{filler_odd, filler_even}
 use Rattle.block_checking.proofs.filler_stands.Goals as goal
 
-pub returns-then-n-eq1 : goal.returns-then-n-eq1
-returns-then-n-eq1 c = filler_odd _ _ _ c.requires.count c.if-n-eq1.true c.half.ensures
+pub returns-then-n-eq0 : goal.returns-then-n-eq0
+returns-then-n-eq0 c = rw c.if-n-eq0.true (filler_even _ c.args.n c.requires.count (omega (arith, c.if-n-eq0.true)))
 
-pub returns-else-n-eq1 : goal.returns-else-n-eq1
-returns-else-n-eq1 c = filler_even _ _ c.requires.count c.if-n-eq1.false
+pub returns-else-n-eq0 : goal.returns-else-n-eq0
+returns-else-n-eq0 c = filler_odd _ _ _ c.requires.count (omega (arith, c.if-n-eq0.false)) c.half.ensures

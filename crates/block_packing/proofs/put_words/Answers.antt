@@ -10,9 +10,6 @@ stage_pair-pair-requires c =
     let g = c.loop-k.invariant.1 in
     (record { room = omega (arith, c.loop-k.invariant.0, g.stage_long); small = omega (arith, g.stage_long) }, g.ready, omega (arith, c.loop-k-test.true))
 
-pub bounds-out-k : goal.bounds-out-k
-bounds-out-k c = omega (arith, c.loop-k-test.true, c.loop-k.invariant.1.out_long, c.requires.room)
-
 pub make_room-place-requires : goal.make_room-place-requires
 make_room-place-requires c =
     let room = c.requires.room in

@@ -1,10 +1,7 @@
-use Prim.Native.Nat.{◌-◌, ◌/◌, ◌≤◌}
+use Prim.Native.Nat.{◌≤◌}
 use Rattle.block_staging.specs.Inside.{most_staged}
 use Rattle.block_packing.proofs.PutLoop.{Going}
 use Rattle.block_packing.proofs.put_words.Given as goal
 
 abbrev pub invariant-loop-k : goal.invariant-loop-k
 invariant-loop-k l = (l.staged ≤ most_staged) × Going l.words l.initial.fcm l.initial.dfcm l.initial.out l.fcm l.dfcm l.out l.stage l.at l.staged l.carry l.k
-
-abbrev pub decreases-loop-k : goal.decreases-loop-k
-decreases-loop-k l = l.n / 2 - l.k

@@ -16,8 +16,8 @@ unfolding xor
 chosen-coded-requires c = (omega (arith, xor_differs _ _ c.if-word-fcm_predicts.false), omega (arith, xor_differs _ _ c.if-word-dfcm_predicts.false))
 
 pub overflow_add-result : goal.overflow_add-result
-overflow_add-result c = omega (arith, c.written.ensures, written_small c.chosen-coded.result.code, c.requires.room, c.requires.small)
+overflow_add-result c = omega (arith, c.written_by_table.ensures, written_small c.chosen-coded.result.code, c.requires.room, c.requires.small)
 
 pub returns : goal.returns
 unfolding xor
-returns c = chosen-staged _ _ _ _ _ c.requires.room c.chosen-coded.ensures c.store_eight.ensures _ c.written.ensures
+returns c = chosen-staged _ _ _ _ _ c.requires.room c.chosen-coded.ensures c.store_eight.ensures _ c.written_by_table.ensures
