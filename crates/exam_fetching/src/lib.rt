@@ -2,34 +2,27 @@
 #![tactic(auto)]
 
 ghost use Rattle.std.specs.Prelude.{◌≡◌, ◌≤◌};
+ghost use Rattle.answers.specs.Refusals.{number_told};
+ghost use Rattle.block_rules.specs.Calls.{unpacked_told};
 ghost use Rattle.exam_rules.specs.Numbers.{found_number};
 ghost use Rattle.exam_rules.specs.Calls.{Fetches};
 ghost use Rattle.exam_rules.specs.Inside.{Standing};
 ghost use Rattle.exam_fetching.specs.Inside.{FetchesOpened};
 
-use block_rules::Unpacked;
-use exam_rules::{Opened, Trailer};
+use answers::Refusal;
+use exam_rules::Trailer;
 
-// The number that fetching answers, once the slot was looked for.
-fn fetch_number(found: u32, block: &[u8], t: usize, fcm: usize, dfcm: usize, room: usize) -> u32
+// Refuses a block that is found, but whose words cannot be fetched.
+fn check_fetch(block: &[u8], t: usize, fcm: usize, dfcm: usize, room: usize) -> Result<(), Refusal>
     requires { t ≤ 16 }
-    ensures { result ≡ found_number found block.now t fcm dfcm room }
+    ensures { number_told result ≡ found_number 0 block.now t fcm dfcm room }
 {
-    if found != 0 {
-        return found;
+    exam_checking::check_file_tables(t, fcm, dfcm)?;
+    let count = block_checking::check(block)?;
+    if room < count {
+        return Err(Refusal::NoRoom);
     }
-    let tables = exam_checking::file_tables_number(t, fcm, dfcm);
-    if tables != 0 {
-        return tables;
-    }
-    let number = block_checking::block_number(block);
-    if number != 0 {
-        return number;
-    }
-    if room < block_checking::count(block) {
-        return 3;
-    }
-    0
+    Ok(())
 }
 
 // Fetches the words of a slot from a file that is open, with both tables cleared first.
@@ -40,30 +33,17 @@ fn fetch_opened(
     fcm: &mut [u64],
     dfcm: &mut [u64],
     words: &mut [u64],
-) -> Unpacked
+) -> Result<usize, Refusal>
     requires { Standing file.now trailer }
-    ensures { FetchesOpened file.now slot fcm.old dfcm.old words.old result fcm.new dfcm.new words.new }
+    ensures { FetchesOpened file.now slot fcm.old dfcm.old words.old (unpacked_told result) fcm.new dfcm.new words.new }
 {
-    let part = exam_opening::part_of(file, trailer, slot);
-    let start = part.start;
-    let end = part.end;
-    let block = &file[start..end];
-    let number = fetch_number(
-        part.number,
-        block,
-        trailer.t,
-        fcm.len(),
-        dfcm.len(),
-        words.len(),
-    );
-    if number != 0 {
-        return Unpacked { number, count: 0 };
-    }
-    let count = block_unpacking::unpack_all(block, fcm, dfcm, words);
-    Unpacked { number: 0, count }
+    let part = exam_opening::part_of(file, trailer, slot)?;
+    let block = &file[part.start..part.end];
+    check_fetch(block, trailer.t, fcm.len(), dfcm.len(), words.len())?;
+    Ok(block_unpacking::unpack_all(block, fcm, dfcm, words))
 }
 
-// Fetches the words of a slot.
+// Fetches the words of a slot. Answers how many they are.
 pub fn fetch(
     file: &[u8],
     length: usize,
@@ -72,15 +52,12 @@ pub fn fetch(
     fcm: &mut [u64],
     dfcm: &mut [u64],
     words: &mut [u64],
-) -> Unpacked
-    ensures { Fetches file.now length exam slot fcm.old dfcm.old words.old result fcm.new dfcm.new words.new }
+) -> Result<usize, Refusal>
+    ensures { Fetches file.now length exam slot fcm.old dfcm.old words.old (unpacked_told result) fcm.new dfcm.new words.new }
 {
-    let reply = exam_opening::open(file, length, exam);
-    let Opened::Done(trailer) = reply else {
-        return Unpacked {
-            number: exam_opening::opened_number(reply),
-            count: 0,
-        };
+    let opened = exam_opening::open(file, length, exam);
+    let Ok(trailer) = opened else {
+        return Err(opened.unwrap_err());
     };
     fetch_opened(&file[..length], trailer, slot, fcm, dfcm, words)
 }

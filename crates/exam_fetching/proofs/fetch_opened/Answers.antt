@@ -1,15 +1,25 @@
+use mathlib.Core.Path.{refl}
+use Rattle.answers.proofs.Told.{refuses, handed_on}
+use Rattle.block_rules.proofs.Accept.{where_refused}
 use Rattle.exam_rules.proofs.Parts.{t-small}
-use Rattle.exam_fetching.proofs.Fetching.{opened-refused, opened-unpackable, opened-done}
+use Rattle.exam_fetching.proofs.Fetching.{not-there, its-block, opened-unpackable, opened-done}
 use Rattle.exam_fetching.proofs.fetch_opened.Goals as goal
 
-pub fetch_number-number-requires : goal.fetch_number-number-requires
-fetch_number-number-requires c = t-small _ _ c.requires
+pub check_fetch-requires : goal.check_fetch-requires
+check_fetch-requires c = t-small _ _ c.requires
 
-pub returns-then-number-ne0 : goal.returns-then-number-ne0
-returns-then-number-ne0 c = opened-refused _ _ c.requires _ _ _ _ _ c.part_of-part.ensures _ c.fetch_number-number.ensures c.if-number-ne0.true
+pub returns-in_err-check_fetch : goal.returns-in_err-check_fetch
+returns-in_err-check_fetch c =
+    rw (handed_on c.from_residual-in_err-check_fetch.ensures.1)
+    (where_refused _ _ _ _ _ _ _ (its-block _ _ c.requires _ _ _ _ _ c.in_ok-part.ensures _ c.in_err-check_fetch.ensures) (refuses _))
 
-pub unpack_all-count-requires : goal.unpack_all-count-requires
-unpack_all-count-requires c = opened-unpackable _ _ c.requires _ c.args.fcm.now c.args.dfcm.now c.args.words.now _ c.part_of-part.ensures _ c.fetch_number-number.ensures c.if-number-ne0.false
+pub unpack_all-requires : goal.unpack_all-requires
+unpack_all-requires c = opened-unpackable _ _ c.requires _ _ _ _ _ c.in_ok-part.ensures _ c.in_ok-check_fetch.ensures refl
 
 pub returns : goal.returns
-returns c = opened-done _ _ c.requires _ _ _ _ _ c.part_of-part.ensures _ c.fetch_number-number.ensures c.if-number-ne0.false _ _ _ _ c.unpack_all-count.ensures
+returns c = opened-done _ _ c.requires _ _ _ _ _ c.in_ok-part.ensures _ c.in_ok-check_fetch.ensures refl _ _ _ _ c.unpack_all.ensures
+
+pub returns-in_err-part : goal.returns-in_err-part
+returns-in_err-part c =
+    rw (handed_on c.from_residual.ensures.1)
+    (where_refused _ _ _ _ _ _ _ (not-there _ _ c.requires _ _ _ _ _ c.in_err-part.ensures (refuses _)) (refuses _))
