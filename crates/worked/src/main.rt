@@ -6,8 +6,6 @@
 // The prover pays for each lend to a call. So the cases here are few, and the files are written out.
 #![tactic(auto)]
 
-ghost use Rattle.std.specs.Prelude.{◌≡◌};
-
 use exams::Opened;
 use std::io;
 
@@ -21,21 +19,14 @@ fn labelled(rt: &impl Print, label: &str, n: u64) -> io::Result<()> {
 }
 
 // A byte in hex after a space.
-fn hex(rt: &impl Print, byte: u64) -> io::Result<()> {
+fn hex(rt: &impl Print, byte: u8) -> io::Result<()> {
     print!(rt; " {byte:02x}")
-}
-
-// A byte as a word.
-fn wide(b: u8) -> u64
-    ensures { result ≡ b }
-{
-    b as u64
 }
 
 // Each byte.
 fn show_bytes(rt: &impl Print, bytes: &[u8]) -> io::Result<()> {
     for b in bytes {
-        hex(rt, wide(*b))?;
+        hex(rt, *b)?;
     }
     Ok(())
 }
