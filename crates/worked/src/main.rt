@@ -6,7 +6,7 @@
 // The prover pays for each lend to a call. So the cases here are few, and the files are written out.
 #![tactic(auto)]
 
-use exams::Opened;
+use answers::number_told;
 use std::io;
 
 fn show_text(rt: &impl Print, text: &str) -> io::Result<()> {
@@ -35,9 +35,9 @@ fn show_bytes(rt: &impl Print, bytes: &[u8]) -> io::Result<()> {
 fn check(rt: &impl Print, block: &[u8]) -> io::Result<()> {
     show_text(rt, "check")?;
     show_bytes(rt, block)?;
-    let r = blocks::check(block);
-    labelled(rt, ": answers ", r.number as u64)?;
-    labelled(rt, ", count ", r.count as u64)?;
+    let checked = blocks::check(block);
+    labelled(rt, ": answers ", u64::from(number_told(&checked)))?;
+    labelled(rt, ", count ", checked.unwrap_or(0) as u64)?;
     show_text(rt, "\n")
 }
 
@@ -53,9 +53,9 @@ fn checks(rt: &impl Print) -> io::Result<()> {
 fn open(rt: &impl Print, file: &[u8], length: usize, exam: u64) -> io::Result<()> {
     labelled(rt, "open ", length as u64)?;
     labelled(rt, " bytes for exam ", exam)?;
-    let answer = exams::open(file, length, exam);
-    labelled(rt, ": answers ", exams::opened_number(answer) as u64)?;
-    if let Opened::Done(trailer) = answer {
+    let opened = exams::open(file, length, exam);
+    labelled(rt, ": answers ", u64::from(number_told(&opened)))?;
+    if let Ok(trailer) = opened {
         labelled(rt, ", t ", trailer.t as u64)?;
         labelled(rt, ", entries ", trailer.entries as u64)?;
         labelled(rt, ", directory at ", trailer.start as u64)?;

@@ -1,4 +1,0 @@
-use Rattle.coil.proofs.coil_fetch.Goals as goal
-
-pub returns : goal.returns
-returns c = c.fetch-answer.ensures

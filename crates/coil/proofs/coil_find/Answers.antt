@@ -1,4 +1,0 @@
-use Rattle.coil.proofs.coil_find.Goals as goal
-
-pub returns : goal.returns
-returns c = c.locate-answer.ensures
