@@ -1,5 +1,5 @@
 -- Bytes low first, and the number that they make.
-use Rattle.std.proofs.Common.{◌≡◌, ℕ, zero, suc, ◌+◌, ◌-◌, ◌*◌, ◌/◌, ◌%◌, ◌^◌, ◌<◌, ◌≤◌, List, [], ◌∷◌, ◌++◌, length, get_or, take, drop, refl, ap, ◌∙◌, mul_assoc, mul_comm, div-lt_iff_lt-mul, suc-add, pow-suc, mul-zero, zero-add, rules, arith, get_or-drop, drop-cons, drop-drop, length-drop, length-append, length-take-le, replicate}
+use Rattle.std.proofs.Common.{◌≡◌, ℕ, zero, suc, ◌+◌, ◌-◌, ◌*◌, ◌/◌, ◌%◌, ◌^◌, ◌<◌, ◌≤◌, List, [], ◌∷◌, ◌++◌, length, take, drop, refl, ap, ◌∙◌, mul_assoc, div-lt_iff_lt-mul, suc-add, pow-suc, mul-zero, zero-add, rules, arith, get_or-drop, drop-drop, length-drop, length-append, length-take-le, replicate}
 use native.Mathlib.Nat.{pow-succ', div-eq_of_lt, add-mul-div_left}
 use lib.Seq.{take-nil}
 use Rattle.std.proofs.lemmas.List.{drop-replicate}
@@ -58,6 +58,8 @@ number-below zero bs h = omega arith
 number-below (suc k) [] h = omega (arith, number-below k [] h, pow-suc 256 k)
 number-below (suc k) (b ∷ bs) h = rw pow-suc (omega (arith, number-below k bs (λ i. h (suc i)), h 0))
 
+-- ---- a word as the library writes and reads it
+
 pub eight_written : (x : ℕ) → to_le_bytes w64 x ≡ low_bytes 8 x
 eight_written x = search rules
 
@@ -93,12 +95,6 @@ number-joined (suc j) k (b ∷ bs) =
 -- the first j bytes, then the k after them
 field-joined : (j k at : ℕ) (bs : List ℕ) → field (j + k) at bs ≡ field j at bs + 256 ^ j * field k (at + j) bs
 field-joined j k at bs = number-joined j k (drop at bs) ∙ rw drop-drop
-
-pub field-one : (at b : ℕ) (bs : List ℕ) → at < length bs → b ≡ get_or bs at 0 → b ≡ field 1 at bs
-field-one at b bs h e = rw (e, drop-cons bs at 0 h) (omega arith)
-
-pub field_of : (j k at low high : ℕ) (bs : List ℕ) → low ≡ field j at bs → high ≡ field k (at + j) bs → low + high * 256 ^ j ≡ field (j + k) at bs
-field_of j k at low high bs e f = rw (e, f, field-joined j k at bs, mul_comm (field k (at + j) bs) (256 ^ j))
 
 -- a field of k bytes is below 256 ^ k
 pub field_below : (k at : ℕ) (bs : List ℕ) → Bytes bs → field k at bs < 256 ^ k

@@ -21,7 +21,8 @@ pub fn difference(a: u64, b: u64) -> u64
     std::num::wrapping_sub_u64(a, b)
 }
 
-// Sets every word of a table to zero.
+// Sets every word of a table to zero. (`fill` sets the last word apart, and packing took up to 5 %
+// longer with it.)
 pub fn clear(table: &mut [u64])
     ensures { table.new ≡ replicate (length table.old) 0 }
 {
@@ -43,7 +44,7 @@ pub fn put_bytes(out: &mut [u8], at: usize, k: usize, x: u64)
     }
 }
 
-// Reads the number in a field of k bytes at a place, from its last byte down.
+// Reads the number in a field of k bytes at a place.
 #[tactic(auto, using(crate::proofs::Bytes::read_padded))]
 pub fn get_bytes(src: &[u8], at: usize, k: usize) -> u64
     requires { (at + k ≤ length src.now) × (k ≤ 8) }
@@ -87,7 +88,8 @@ pub fn same(a: &[u8], b: &[u8]) -> bool
     a == b
 }
 
-// Copies the bytes of src to a place of out. (`copy_from_slice` would have C's library called for `memmove`.)
+// Copies the bytes of src to a place of out. (`copy_from_slice` would have the compiler call C's
+// `memmove`.)
 #[tactic(auto, using(crate::proofs::Stores::stores))]
 pub fn copy_in(out: &mut [u8], at: usize, src: &[u8])
     requires { at + length src.now ≤ length out.old }
