@@ -14,7 +14,10 @@ use Rattle.block_rules.specs.Codes.{Choice, dfcm_chosen, dfcm_chosen_by_bytes}
 use Rattle.block_rules.specs.Block.{block_by, block, worst, count, stated_length, residuals_at, counted_codes, last_half, residual_length, coded_in, none_padded}
 use Rattle.block_rules.specs.Forms.{named}
 use Rattle.block_rules.specs.Room.{Cut, bound, closer_bound, BlockFor}
-use Rattle.block_rules.specs.Calls.{packed, packs_number, Packs, checked, Unpacks, Packed, Checked, Unpacked}
+use Rattle.block_rules.specs.Calls.{packed, packs_number, Packs, checked, Unpacks, Packed, Checked, Unpacked, packed_told, checked_told, unpacked_told}
+use Rattle.answers.specs.declared.Refusal.{Refusal}
+use Rattle.answers.proofs.Told.{one_count}
+use Rattle.std.proofs.Common.{Result}
 use Rattle.block_rules.specs.Numbers.{t_of, tables_number}
 use Rattle.block_rules.specs.Inside.{Sized, PacksAll, UnpacksAll}
 use Rattle.block_rules.proofs.Tables.{t_of_power, sized-power, tables-sized, sized-tables}
@@ -44,6 +47,16 @@ check_one_answer b p q = p ∙ sym q
 pub unpack_one_answer : {b fcm dfcm words f₁ d₁ w₁ f₂ d₂ w₂ : List ℕ} {r₁ r₂ : Unpacked}
     → Unpacks b fcm dfcm words r₁ f₁ d₁ w₁ → Unpacks b fcm dfcm words r₂ f₂ d₂ w₂ → (r₁ ≡ r₂) × (f₁ ≡ f₂) × (d₁ ≡ d₂) × (w₁ ≡ w₂)
 unpack_one_answer p q = where_one_answer p q
+
+-- What is told of an answer leaves one answer: so of the Result that pack, check and unpack answer, refused or not, the promise admits one value too.
+pub pack_one_result : (r s : Result ℕ Refusal) → packed_told r ≡ packed_told s → r ≡ s
+pack_one_result r s e = one_count r s (ap (λ (x : Packed). x.number) e) (ap (λ (x : Packed). x.length) e)
+
+pub check_one_result : (r s : Result ℕ Refusal) → checked_told r ≡ checked_told s → r ≡ s
+check_one_result r s e = one_count r s (ap (λ (x : Checked). x.number) e) (ap (λ (x : Checked). x.count) e)
+
+pub unpack_one_result : (r s : Result ℕ Refusal) → unpacked_told r ≡ unpacked_told s → r ≡ s
+unpack_one_result r s e = one_count r s (ap (λ (x : Unpacked). x.number) e) (ap (λ (x : Unpacked). x.count) e)
 
 -- Nor does the working half of pack, which other crates call where nothing is refused, admit a second answer.
 pub pack_all_one_answer : {t : ℕ} {words old f₁ d₁ o₁ f₂ d₂ o₂ : List ℕ} {k₁ k₂ : ℕ}

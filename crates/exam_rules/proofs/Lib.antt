@@ -23,4 +23,5 @@ pub mod Salvage
 pub mod Maps
 pub mod Cut
 pub mod Rescued
+pub mod Results
 pub mod Claims

@@ -24,7 +24,15 @@ use Rattle.block_rules.specs.Calls.{Unpacked}
 use Rattle.exam_rules.specs.File.{entry, File, file_length, file_bytes, block_of, empty, appended, replaced}
 use Rattle.exam_rules.specs.Reading.{t_in, exam_in, distance_in, entries_in, length_in, file_in, entry_of}
 use Rattle.exam_rules.specs.Numbers.{open_in_number, find_number, block_in, next_slot}
-use Rattle.exam_rules.specs.Calls.{opened, opened_number, opened_t, opened_entries, opened_start, Finds, located, Fetches, Creates, appends_number, Appends, replaces_number, Replaces, Lent, lent, words_of, filled, AppendsAll, salvaged, salvages_number, Salvages, Located, Made, Filled, Salvaged, Opened, Done, Refused}
+use Rattle.exam_rules.specs.Calls.{opened, opened_number, opened_t, opened_entries, opened_start, Finds, located, Fetches, Creates, appends_number, Appends, replaces_number, Replaces, Lent, lent, words_of, filled, AppendsAll, salvaged, salvages_number, Salvages, Located, Made, Filled, Salvaged, Opened, Done, Refused, opened_told, located_told, made_told, filled_told, salvaged_told}
+use Rattle.exam_rules.specs.declared.BlockPlace.{BlockPlace}
+use Rattle.exam_rules.specs.declared.Progress.{Progress}
+use Rattle.exam_rules.specs.declared.SalvagedFile.{SalvagedFile}
+use Rattle.answers.specs.declared.Refusal.{Refusal}
+use Rattle.answers.proofs.Told.{one_count}
+use Rattle.exam_rules.proofs.Results.{one_opening, one_place, one_progress, one_salvage}
+use Rattle.std.proofs.Common.{Result}
+use Rattle.exam_rules.specs.declared.Trailer.{Trailer}
 use Rattle.exam_rules.specs.Pieces.{blocks_of, file_of_pieces}
 use Rattle.exam_rules.specs.Salvage.{block_stands, whole_blocks, numbered, salvaged_file}
 use Rattle.exam_rules.specs.Maps.{Map, piece_of, file_of, piece_by, file_by, changed, renumbered_from}
@@ -97,6 +105,23 @@ append_all_one_answer p q =
 -- Of salvage's answer and of the buffer, refused or not, the promise admits one value each.
 pub salvage_one_answer : {old b b₁ b₂ : List ℕ} {exam t : ℕ} {r₁ r₂ : Salvaged} → Salvages old b exam t r₁ b₁ → Salvages old b exam t r₂ b₂ → (r₁ ≡ r₂) × (b₁ ≡ b₂)
 salvage_one_answer p q = (p.answer ∙ sym q.answer, p.file_left ∙ sym q.file_left)
+
+-- What is told of an answer leaves one answer: so of the Result that a call on a file answers, and of append_all's Progress, the promise admits one value too. (Fetch tells as unpack does,
+-- append and replace as create does.)
+pub open_one_result : (r s : Result Trailer Refusal) → opened_told r ≡ opened_told s → r ≡ s
+open_one_result r s e = one_opening r s e
+
+pub locate_one_result : (r s : Result BlockPlace Refusal) → located_told r ≡ located_told s → r ≡ s
+locate_one_result r s e = one_place r s e
+
+pub create_one_result : (r s : Result ℕ Refusal) → made_told r ≡ made_told s → r ≡ s
+create_one_result r s e = one_count r s (ap (λ (x : Made). x.number) e) (ap (λ (x : Made). x.length) e)
+
+pub append_all_one_result : (r s : Progress) → filled_told r ≡ filled_told s → r ≡ s
+append_all_one_result r s e = one_progress r s e
+
+pub salvage_one_result : (r s : Result SalvagedFile Refusal) → salvaged_told r ≡ salvaged_told s → r ≡ s
+salvage_one_result r s e = one_salvage r s e
 
 -- ---- when each call answers 0
 
