@@ -45,7 +45,9 @@ fn check_append(
     exam_checking::check_store(trailer.t, count, fcm, dfcm, length + 12, buffer, bench)
 }
 
-// Appends a slot to a file that is open. Answers the file's new length.
+// Appends a slot to a file that is open. Answers the file's new length. It is inlined, since a call would
+// put the trailer and the answer into memory, on a stack that may be small (tests/stack.c).
+#[inline(always)]
 pub fn append_opened(
     file: &mut [u8],
     length: usize,
