@@ -1,16 +1,17 @@
 -- What the code reads of a trailer and of a directory.
-use mathlib.Core.Path.{◌≡◌, sym, ◌∙◌}
+use mathlib.Core.Path.{◌≡◌, refl, sym, ◌∙◌}
 use mathlib.Core.List.{List}
 use mathlib.Core.Bool.{Bool}
-use Prim.Native.Nat.{ℕ, ◌+◌, ◌-◌, ◌≤◌}
+use Prim.Native.Nat.{ℕ, ◌+◌, ◌-◌, ◌*◌, ◌≤◌}
 use native.Mathlib.Omega.{arith}
 use lib.ListN.{length, take, drop}
 use Rattle.words.specs.Bytes.{same_bytes}
 use Rattle.exam_rules.specs.File.{mark}
-use Rattle.exam_rules.specs.Reading.{mark_in, edition_in, t_in, distance_in, entries_in, length_in, entries_at, file_in}
+use Rattle.exam_rules.specs.Reading.{mark_in, edition_in, t_in, distance_in, entries_in, length_in, directory_at, file_in}
 use Rattle.exam_rules.specs.Numbers.{fields_number, joins, entries_number, directory_number}
-use Rattle.exam_rules.specs.Inside.{Entries}
+use Rattle.exam_rules.specs.Inside.{listed}
 use Rattle.exam_rules.proofs.Opens.{Trails, trails-ends, directory-is}
+use Rattle.exam_rules.proofs.Listed.{listed-part}
 
 pub mark_read : (f : List ℕ) (s r : Bool) → 32 ≤ length f → s ≡ same_bytes (take (length f - 32 + 4 - (length f - 32)) (drop (length f - 32) f)) mark → s ≡ r → same_bytes (mark_in f) mark ≡ r
 mark_read f s r h e q =
@@ -21,10 +22,10 @@ pub fields_read : (f : List ℕ) (edition t distance entries stated r : ℕ) →
     → r ≡ fields_number edition t distance entries stated (length f) → r ≡ fields_number (edition_in f) (t_in f) (distance_in f) (entries_in f) (length_in f) (length f)
 fields_read f edition t distance entries stated r a b c d e q = cc
 
--- the entries of the directory are within the file
-pub entries_here : (f : List ℕ) (distance n : ℕ) → Trails f → distance ≡ distance_in f → n ≡ entries_in f → Entries f (length f - distance) n
-entries_here f distance n r d e = record { room = omega (arith, trails-ends f r); few = omega (arith, r.few) }
-
-pub directory_read : (f : List ℕ) (distance n k : ℕ) → distance ≡ distance_in f → n ≡ entries_in f → k ≡ entries_number joins 0 0 (entries_at f (length f - distance) n) (length f - distance)
-    → k ≡ directory_number (file_in f)
-directory_read f distance n k d e q = (rw (d, e) at q) ∙ sym (directory-is f)
+-- the directory, between its place and the trailer, lists the entries
+pub directory_read : (f : List ℕ) (distance k : ℕ) → Trails f → distance ≡ distance_in f
+    → k ≡ entries_number joins 0 0 (listed (take (length f - 32 - (length f - distance)) (drop (length f - distance) f))) (length f - distance) → k ≡ directory_number (file_in f)
+directory_read f distance k r d q =
+    let m : length f - 32 - (length f - distance) ≡ 12 * entries_in f = omega (arith, r.distance, r.within) in
+    let e = listed-part f (directory_at f) (entries_in f) (12 * entries_in f) refl (omega (arith, trails-ends f r)) in
+    rw (m, d, e) at q ∙ sym (directory-is f)

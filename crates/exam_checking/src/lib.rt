@@ -3,9 +3,8 @@
 
 ghost use Rattle.std.specs.Prelude.{◌≡◌, ◌+◌, ◌≤◌};
 ghost use Rattle.answers.specs.Refusals.{number_told};
-ghost use Rattle.exam_rules.specs.Reading.{entries_at};
 ghost use Rattle.exam_rules.specs.Numbers.{most_bytes, edition_known, joins, entries_number, fields_number, trailer_number, open_number, open_in_number, file_tables_number, store_number};
-ghost use Rattle.exam_rules.specs.Inside.{Entries};
+ghost use Rattle.exam_rules.specs.Inside.{listed};
 
 use answers::Refusal;
 
@@ -79,19 +78,16 @@ fn joins(end: u64, next: u64) -> bool
     end == next
 }
 
-// The directory's rule, over n entries at a place, where the directory itself starts at `to`.
-fn check_entries(file: &[u8], at: usize, n: usize, to: usize) -> Result<(), Refusal>
-    requires { Entries file.now at n }
-    ensures { number_told result ≡ entries_number joins 0 0 (entries_at file.now at n) to }
+// Refuses a directory that breaks its rule, where its own place is the end of the last block.
+fn check_entries(directory: &[u8], start: usize) -> Result<(), Refusal>
+    ensures { number_told result ≡ entries_number joins 0 0 (listed directory.now) start }
 {
     let mut lowest: u64 = 0;
     let mut from: u64 = 0;
-    let mut place = at;
-    let mut i = 0;
-    while i < n {
-        let slot = words::get_bytes(file, place, 4);
-        let offset = words::get_bytes(file, place + 4, 4);
-        let size = words::get_bytes(file, place + 8, 4);
+    for entry in directory.chunks_exact(12) {
+        let slot = words::get_bytes(entry, 0, 4);
+        let offset = words::get_bytes(entry, 4, 4);
+        let size = words::get_bytes(entry, 8, 4);
         if slot < lowest {
             return Err(Refusal::Directory);
         }
@@ -103,10 +99,8 @@ fn check_entries(file: &[u8], at: usize, n: usize, to: usize) -> Result<(), Refu
         }
         lowest = slot + 1;
         from = offset + size;
-        place += 12;
-        i += 1;
     }
-    if !joins(from, to as u64) {
+    if !joins(from, start as u64) {
         return Err(Refusal::Directory);
     }
     Ok(())
@@ -125,8 +119,7 @@ fn check_open(file: &[u8], exam: u64) -> Result<(), Refusal>
         return Err(Refusal::ExamNumber);
     }
     let start = file.len() - words::get_bytes(file, at + 16, 4) as usize;
-    let n = words::get_bytes(file, at + 20, 4) as usize;
-    check_entries(file, start, n, start)
+    check_entries(&file[start..at], start)
 }
 
 // Whether the first bytes of a buffer open as a file.

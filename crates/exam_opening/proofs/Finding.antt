@@ -3,50 +3,73 @@ use mathlib.Core.Path.{◌≡◌, sym, ap, ◌∙◌}
 use mathlib.Core.List.{List, []}
 use Prim.Native.Nat.{ℕ, ◌-◌, ◌<◌, ◌+◌, ◌*◌, ◌≤◌}
 use native.Mathlib.Omega.{arith}
-use lib.ListN.{length, take, drop, get_or}
+use lib.ListN.{length, take, drop, get_or, length-drop}
+use lib.Seq.{length-take-le}
 use borrow.Author.Tests.{le-ltb, lt-ltb}
+use Rattle.std.proofs.Common.{Option, Some, None}
+use Rattle.std.specs.List.{position}
 use Rattle.words.specs.Bytes.{field}
 use Rattle.answers.proofs.Checks.{fails_here, fails_later, last_decides, afterwards-old, unless_fails, unless-passes, afterwards-new}
 use Rattle.exam_rules.specs.File.{Entry, block_of, entry}
-use Rattle.exam_rules.specs.Reading.{file_in, index_of, entry_of, entries_at, entry_at, directory_at, entries_in}
+use Rattle.exam_rules.specs.Reading.{file_in, index_of, entry_of, entry_at, directory_at}
 use Rattle.exam_rules.specs.Numbers.{slot_number, find_number, block_in}
 use Rattle.exam_rules.specs.Calls.{opened, Finds, located, Done, Refused}
-use Rattle.exam_rules.specs.Inside.{Standing}
+use Rattle.exam_rules.specs.Inside.{listed, Standing}
 use Rattle.exam_rules.specs.declared.Trailer.{Trailer}
 use Rattle.exam_rules.proofs.Directory.{block_within}
-use Rattle.exam_rules.proofs.Opens.{refused-tells, done-tells, entries-many, trails-ends, body-long}
-use Rattle.exam_rules.proofs.Parts.{entries_are, many_is, index-at_most, start_is, rules_are, part_of_first, entry-there}
+use Rattle.exam_rules.proofs.Opens.{refused-tells, done-tells, trails-ends, body-long}
+use Rattle.exam_rules.proofs.Parts.{entries_are, many_is, start_is, rules_are, part_of_first}
+use Rattle.exam_rules.proofs.Entries.{entry_in_first}
+use Rattle.exam_rules.proofs.Listed.{has, listed-part, listed-there, position-there, position-missing}
 use Rattle.exam_opening.specs.Inside.{Found}
 use Rattle.exam_opening.specs.declared.Part.{Part}
 
 -- ---- the part of a slot in a file that is open
 
 module _ (f : List ℕ) (tr : Trailer) (st : Standing f tr) where
-  module _ (slot i : ℕ) (e : i ≡ index_of slot (entries_at f tr.start tr.entries)) where
-    pub index_is : i ≡ index_of slot (file_in f).entries
-    index_is = e ∙ ap (λ (es : List Entry). index_of slot es) (entries_are f tr st)
+  pub directory-ends : tr.start + 12 * tr.entries + 32 ≡ length f
+  directory-ends = omega (arith, trails-ends f (rules_are f tr st), start_is f tr st, many_is f tr st)
 
-    pub part_missing : i ≡ tr.entries → 10 ≡ slot_number (file_in f) slot
+  -- the bytes between the directory's place and the trailer
+  abbrev pub directory : List ℕ
+  directory = take (length f - 32 - tr.start) (drop tr.start f)
+
+  lists : listed directory ≡ (file_in f).entries
+  lists = listed-part f tr.start tr.entries _ (omega (arith, directory-ends)) (omega (arith, directory-ends)) ∙ entries_are f tr st
+
+  module _ (slot : ℕ) (r : Option ℕ) (e : r ≡ position (has slot) (listed directory)) where
+    pub part_missing : r ≡ None → 10 ≡ slot_number (file_in f) slot
     unfolding slot_number
-    part_missing q = unless_fails _ _ (le-ltb (index_of slot (file_in f).entries) (length (file_in f).entries) (omega (arith, index_is, many_is f tr st, entries-many f)))
+    part_missing q = unless_fails _ _ (le-ltb _ _ (position-missing slot (file_in f).entries (rw lists at (sym e ∙ q))))
 
-    module _ (q : i ≡ tr.entries → ⊥) where
-      pub below : i < tr.entries
-      below = omega (arith, index_is, index-at_most slot (file_in f).entries, many_is f tr st, entries-many f)
+    module _ (i : ℕ) (q : r ≡ Some i) where
+      index_is : (i ≡ index_of slot (file_in f).entries) × (i < length (file_in f).entries)
+      index_is = position-there slot (file_in f).entries i (rw lists at (sym e ∙ q))
 
-      pub entry-is : entry_of slot (file_in f) ≡ entry_at f (tr.start + 12 * i)
-      unfolding entry_of file_in
-      entry-is =
-          rw (← index_is, start_is f tr st) (entry-there f (entries_in f) (directory_at f) i _ (omega (arith, below, many_is f tr st)))
+      -- the bytes from its entry on
+      abbrev its : List ℕ
+      its = take (length directory - 12 * i) (drop (12 * i) directory)
 
-      module _ (offset size : ℕ) (o : offset ≡ field 4 (tr.start + 12 * i + 4) f) (s : size ≡ field 4 (tr.start + 12 * i + 8) f) where
-        part-ends : offset + size ≤ directory_at f
-        unfolding entry_at entry_of
+      its-entry : (d : Entry) → (get_or (file_in f).entries i d ≡ entry_at its 0) × (12 * i + 12 ≤ length directory)
+      its-entry d = let h = rw lists at (listed-there directory i d (rw lists index_is.1)) in (h.0 ∙ sym (entry_in_first (drop (12 * i) directory) 0 (length directory - 12 * i) (omega arith)), h.1)
+
+      -- the twelve bytes of its entry are in the directory
+      pub its-room : 12 * i + 12 ≤ length directory
+      its-room = (its-entry (entry slot 0 0)).1
+
+      pub its-long : 12 ≤ length its
+      its-long = omega (arith, its-room, length-take-le (length directory - 12 * i) (drop (12 * i) directory) (simp length-drop (omega arith)))
+
+      pub entry-is : entry_of slot (file_in f) ≡ entry_at its 0
+      unfolding entry_of
+      entry-is = rw (← index_is.0) (its-entry (entry slot 0 0)).0
+
+      module _ (offset size : ℕ) (o : offset ≡ field 4 4 its) (s : size ≡ field 4 8 its) where
+        pub part-ends : offset + size ≤ directory_at f
+        unfolding entry_at
         part-ends =
-            let h : i < length (file_in f).entries = omega (arith, below, many_is f tr st, entries-many f) in
-            let w = block_within (file_in f) i (entry slot 0 0) st.directory h in
-            let g : get_or (file_in f).entries i (entry slot 0 0) ≡ entry_at f (tr.start + 12 * i) = ap (λ (k : ℕ). get_or (file_in f).entries k (entry slot 0 0)) index_is ∙ entry-is in
-            omega (arith, rw g at w, body-long f)
+            let w = block_within (file_in f) i (entry slot 0 0) st.directory index_is.1 in
+            omega (arith, rw (its-entry (entry slot 0 0)).0 at w, body-long f)
 
         pub part-found : Found f slot (record { index = i; start = offset; end = offset + size })
         unfolding entry_at block_of file_in slot_number
@@ -54,8 +77,8 @@ module _ (f : List ℕ) (tr : Trailer) (st : Standing f tr) where
             let k : offset + size - offset ≡ size = omega arith in
             let w = part-ends in
             record {
-              there = sym (unless-passes _ _ (lt-ltb (index_of slot (file_in f).entries) (length (file_in f).entries) (omega (arith, index_is, below, many_is f tr st, entries-many f))));
-              index = index_is;
+              there = sym (unless-passes _ _ (lt-ltb _ _ (rw index_is.0 at index_is.1)));
+              index = index_is.0;
               offset = o ∙ sym (ap (λ (x : Entry). x.offset) entry-is);
               size = k ∙ s ∙ sym (ap (λ (x : Entry). x.size) entry-is);
               order = omega arith;

@@ -1,11 +1,11 @@
 // Opening a file and finding a slot.
 #![tactic(auto)]
 
-ghost use Rattle.std.specs.Prelude.{◌≡◌};
-ghost use Rattle.exam_rules.specs.Reading.{entries_at, index_of, file_in};
+ghost use Rattle.std.specs.Prelude.{◌≡◌, eqb, position};
+ghost use Rattle.exam_rules.specs.Reading.{file_in};
 ghost use Rattle.exam_rules.specs.Numbers.{trailer_number};
 ghost use Rattle.exam_rules.specs.Calls.{trailer_of, opened_told, opened, Finds, located_told, located};
-ghost use Rattle.exam_rules.specs.Inside.{Entries, Standing};
+ghost use Rattle.exam_rules.specs.Inside.{listed, Standing};
 ghost use Rattle.exam_opening.specs.Inside.{PartOf};
 
 use answers::{Refusal, number_told};
@@ -33,21 +33,13 @@ pub fn open(file: &[u8], length: usize, exam: u64) -> Result<Trailer, Refusal>
     Ok(trailer(&file[..length]))
 }
 
-// Where a slot stands among n entries at a place, or n.
-fn index_of(file: &[u8], at: usize, n: usize, slot: u32) -> usize
-    requires { Entries file.now at n }
-    ensures { result ≡ index_of slot (entries_at file.now at n) }
+// Where a slot stands among the entries of a directory, if it is there.
+fn index_of(directory: &[u8], slot: u32) -> Option<usize>
+    ensures { result ≡ position (λ e. eqb e.slot slot) (listed directory.now) }
 {
-    let mut place = at;
-    let mut i = 0;
-    while i < n {
-        if words::get_bytes(file, place, 4) == slot as u64 {
-            return i;
-        }
-        place += 12;
-        i += 1;
-    }
-    n
+    directory
+        .chunks_exact(12)
+        .position(|entry| words::get_bytes(entry, 0, 4) == slot as u64)
 }
 
 // Where the block of a slot stands in a file, and its entry among the entries.
@@ -63,17 +55,13 @@ pub fn part_of(file: &[u8], trailer: Trailer, slot: u32) -> Result<Part, Refusal
     requires { Standing file.now trailer }
     ensures { PartOf file.now slot result }
 {
-    let start = trailer.start;
-    let n = trailer.entries;
-    let i = index_of(file, start, n, slot);
-    if i == n {
-        return Err(Refusal::NoSuchSlot);
-    }
-    let place = start + 12 * i;
-    let offset = words::get_bytes(file, place + 4, 4) as usize;
-    let size = words::get_bytes(file, place + 8, 4) as usize;
+    let directory = &file[trailer.start..file.len() - 32];
+    let index = index_of(directory, slot).ok_or(Refusal::NoSuchSlot)?;
+    let entry = &directory[12 * index..];
+    let offset = words::get_bytes(entry, 4, 4) as usize;
+    let size = words::get_bytes(entry, 8, 4) as usize;
     Ok(Part {
-        index: i,
+        index,
         start: offset,
         end: offset + size,
     })

@@ -7,6 +7,7 @@ pub mod Filling
 pub mod Forgets
 pub mod Chain
 pub mod Entries
+pub mod Listed
 pub mod Stands
 pub mod Accept
 pub mod Answered

@@ -3,12 +3,10 @@ use mathlib.Core.Path.{◌≡◌, refl, sym, ap, ◌∙◌}
 use mathlib.Core.List.{List, [], ◌∷◌}
 use Prim.Native.Nat.{ℕ, zero, suc, ◌+◌, ◌*◌, ◌≤◌, ◌<◌}
 use native.Mathlib.Omega.{arith}
-use lib.Dec.{eqb}
 use lib.ListN.{length, get_or, take, drop}
 use lib.Seq.{take-take}
-use Rattle.words.proofs.Tests.{either}
 use Rattle.exam_rules.specs.File.{Entry, File}
-use Rattle.exam_rules.specs.Reading.{entry_at, entries_at, entries_in, directory_at, file_in, index_of}
+use Rattle.exam_rules.specs.Reading.{entry_at, entries_at, entries_in, directory_at, file_in}
 use Rattle.exam_rules.specs.Inside.{Entries, Standing}
 use Rattle.exam_rules.specs.declared.Trailer.{Trailer}
 use Rattle.exam_rules.proofs.Opens.{Trails, trails, trails-ends, body-long, entries-many}
@@ -19,10 +17,6 @@ pub entry-there : (f : List ℕ) (n at i : ℕ) (d : Entry) → i < n → get_or
 entry-there f zero at i d h = absurd (omega arith)
 entry-there f (suc n) at zero d h = ap (λ (k : ℕ). entry_at f k) (omega arith)
 entry-there f (suc n) at (suc i) d h = entry-there f n (at + 12) i d (omega arith) ∙ ap (λ (k : ℕ). entry_at f k) (omega arith)
-
-pub index-at_most : (s : ℕ) (es : List Entry) → index_of s es ≤ length es
-index-at_most s [] = omega arith
-index-at_most s (e ∷ es) = either (eqb e.slot s) (λ q. rw q (omega arith)) (λ q. rw q (omega (arith, index-at_most s es)))
 
 pub part_of_first : (size offset k : ℕ) (f : List ℕ) → offset + size ≤ k → take size (drop offset (take k f)) ≡ take size (drop offset f)
 part_of_first size zero k f h = take-take size k f (omega arith)

@@ -5,7 +5,7 @@ use Rattle.answers.proofs.Checks.{fails_here, fails_later, last_decides, passes,
 use Rattle.answers.proofs.Told.{refuses, handed_on}
 use Rattle.exam_rules.specs.Numbers.{open_number}
 use Rattle.exam_rules.proofs.Opens.{trails}
-use Rattle.exam_checking.proofs.Fields.{directory_read, entries_here}
+use Rattle.exam_checking.proofs.Fields.{directory_read}
 use Rattle.exam_checking.proofs.check_open.Goals as goal
 
 pub returns-in_err-check_trailer : goal.returns-in_err-check_trailer
@@ -37,11 +37,11 @@ get_bytes-requires-2 c = (omega (arith, (trails _ (sym (c.in_ok-check_trailer.en
 pub overflow_sub-start : goal.overflow_sub-start
 overflow_sub-start c = omega (arith, (trails _ (sym (c.in_ok-check_trailer.ensures))).within, c.get_bytes-2.ensures)
 
-pub get_bytes-n-requires : goal.get_bytes-n-requires
-get_bytes-n-requires c = (omega (arith, (trails _ (sym (c.in_ok-check_trailer.ensures))).long), omega arith)
+pub slice_bounds-check_entries-count : goal.slice_bounds-check_entries-count
+slice_bounds-check_entries-count c = omega (arith, (trails _ (sym c.in_ok-check_trailer.ensures)).distance, c.get_bytes-2.ensures)
 
-pub check_entries-requires : goal.check_entries-requires
-check_entries-requires c = entries_here c.args.file.now _ _ (trails _ (sym (c.in_ok-check_trailer.ensures))) c.get_bytes-2.ensures c.get_bytes-n.ensures
+pub slice_bounds-check_entries-start : goal.slice_bounds-check_entries-start
+slice_bounds-check_entries-start c = omega (arith, (trails _ (sym c.in_ok-check_trailer.ensures)).distance, c.get_bytes-2.ensures)
 
 pub returns : goal.returns
 unfolding open_number
@@ -49,4 +49,4 @@ returns c =
     fails_later _ _ _ (sym (c.in_ok-check_trailer.ensures))
     (passes _ _ _ _ (lt-ltb 0 c.args.exam (omega (arith, c.if-exam-eq0.false)))
     (passes _ _ _ _ (eq-eqb _ _ (sym c.get_bytes.ensures ∙ c.if-get_bytes-exam.false))
-    (directory_read c.args.file.now _ _ _ c.get_bytes-2.ensures c.get_bytes-n.ensures c.check_entries.ensures ∙ last_decides _)))
+    (directory_read c.args.file.now _ _ (trails _ (sym c.in_ok-check_trailer.ensures)) c.get_bytes-2.ensures c.check_entries.ensures ∙ last_decides _)))

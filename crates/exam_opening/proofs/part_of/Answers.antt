@@ -1,43 +1,42 @@
-use Prim.Native.Nat.{◌+◌, ◌*◌}
+use mathlib.Core.Path.{◌≡◌}
 use native.Mathlib.Omega.{arith}
-use Rattle.words.proofs.Bytes.{field_below}
-use Rattle.exam_rules.proofs.Parts.{entries-stand, rules_are}
-use Rattle.exam_opening.proofs.Finding.{part_missing, below, part-found}
+use Rattle.answers.specs.declared.Refusal.TheVariants.{NoSuchSlot}
+use Rattle.answers.proofs.Told.{handed_on}
+use Rattle.exam_rules.proofs.Parts.{rules_are}
+use Rattle.exam_opening.proofs.Finding.{directory-ends, part_missing, its-room, its-long, part-ends, part-found}
 use Rattle.exam_opening.proofs.part_of.Goals as goal
 
-pub index_of-i-requires : goal.index_of-i-requires
-index_of-i-requires c = entries-stand _ _ c.requires
+pub overflow_sub-directory : goal.overflow_sub-directory
+overflow_sub-directory c = omega (arith, directory-ends _ _ c.requires)
 
-pub returns-then-i-n : goal.returns-then-i-n
-returns-then-i-n c = part_missing _ _ c.requires _ _ c.index_of-i.ensures c.if-i-n.true
+pub slice_bounds-directory-count : goal.slice_bounds-directory-count
+slice_bounds-directory-count c = omega (arith, directory-ends _ _ c.requires)
 
-pub overflow_mul-place : goal.overflow_mul-place
-overflow_mul-place c = omega (arith, (entries-stand _ _ c.requires).room, (rules_are _ _ c.requires).small, below _ _ c.requires _ _ c.index_of-i.ensures c.if-i-n.false)
+pub slice_bounds-directory-start : goal.slice_bounds-directory-start
+slice_bounds-directory-start c = omega (arith, directory-ends _ _ c.requires)
 
-pub overflow_add-place : goal.overflow_add-place
-overflow_add-place c = omega (arith, (entries-stand _ _ c.requires).room, (rules_are _ _ c.requires).small, below _ _ c.requires _ _ c.index_of-i.ensures c.if-i-n.false)
+pub returns-in_err-index : goal.returns-in_err-index
+returns-in_err-index c =
+    let e : c.in_err-index.field-0.0 ≡ NoSuchSlot = cc (rw c.in_err-index.ensures.ok_part at c.in_err-index.ensures.value) in
+    rw (handed_on c.from_residual.ensures.1, e) (part_missing _ _ c.requires _ _ c.index_of.ensures c.in_err-index.ensures.ok_part)
 
-pub overflow_add-place-2 : goal.overflow_add-place-2
-overflow_add-place-2 c = omega (arith, (entries-stand _ _ c.requires).room, (rules_are _ _ c.requires).small, below _ _ c.requires _ _ c.index_of-i.ensures c.if-i-n.false)
+pub overflow_mul-entry : goal.overflow_mul-entry
+overflow_mul-entry c = omega (arith, its-room _ _ c.requires _ _ c.index_of.ensures _ c.in_ok-index.ensures.ok_part)
+
+pub slice_bounds-entry-count : goal.slice_bounds-entry-count
+slice_bounds-entry-count c = omega (arith, its-room _ _ c.requires _ _ c.index_of.ensures _ c.in_ok-index.ensures.ok_part)
+
+pub slice_bounds-entry-start : goal.slice_bounds-entry-start
+slice_bounds-entry-start c = omega (arith, its-room _ _ c.requires _ _ c.index_of.ensures _ c.in_ok-index.ensures.ok_part)
 
 pub get_bytes-offset-requires : goal.get_bytes-offset-requires
-get_bytes-offset-requires c = (omega (arith, (entries-stand _ _ c.requires).room, below _ _ c.requires _ _ c.index_of-i.ensures c.if-i-n.false), omega arith)
-
-pub overflow_add-place-3 : goal.overflow_add-place-3
-overflow_add-place-3 c = omega (arith, (entries-stand _ _ c.requires).room, (rules_are _ _ c.requires).small, below _ _ c.requires _ _ c.index_of-i.ensures c.if-i-n.false)
+get_bytes-offset-requires c = (omega (arith, its-long _ _ c.requires _ _ c.index_of.ensures _ c.in_ok-index.ensures.ok_part), omega arith)
 
 pub get_bytes-size-requires : goal.get_bytes-size-requires
-get_bytes-size-requires c = (omega (arith, (entries-stand _ _ c.requires).room, below _ _ c.requires _ _ c.index_of-i.ensures c.if-i-n.false), omega arith)
+get_bytes-size-requires c = (omega (arith, its-long _ _ c.requires _ _ c.index_of.ensures _ c.in_ok-index.ensures.ok_part), omega arith)
 
 pub overflow_add-result : goal.overflow_add-result
-overflow_add-result c =
-    omega (
-      arith,
-      c.get_bytes-offset.ensures,
-      c.get_bytes-size.ensures,
-      field_below 4 (c.args.trailer.start + 12 * c.index_of-i.result + 4) c.args.file.now (λ i. (c.type_inv.file i).fits),
-      field_below 4 (c.args.trailer.start + 12 * c.index_of-i.result + 8) c.args.file.now (λ i. (c.type_inv.file i).fits),
-    )
+overflow_add-result c = omega (arith, (rules_are _ _ c.requires).small, part-ends _ _ c.requires _ _ c.index_of.ensures _ c.in_ok-index.ensures.ok_part _ _ c.get_bytes-offset.ensures c.get_bytes-size.ensures)
 
 pub returns : goal.returns
-returns c = part-found _ _ c.requires _ _ c.index_of-i.ensures c.if-i-n.false _ _ c.get_bytes-offset.ensures c.get_bytes-size.ensures
+returns c = part-found _ _ c.requires _ _ c.index_of.ensures _ c.in_ok-index.ensures.ok_part _ _ c.get_bytes-offset.ensures c.get_bytes-size.ensures
