@@ -21,10 +21,10 @@ use Rattle.exam_rules.specs.Calls.{opened, opened_number, Done, Refused}
 use Rattle.exam_rules.specs.Inside.{Standing}
 use Rattle.exam_rules.specs.declared.Trailer.{Trailer}
 use Rattle.exam_rules.proofs.Directory.{length-entries}
-use Rattle.exam_rules.proofs.Listed.{listed-part}
-use Rattle.exam_rules.proofs.Opens.{trails-ends, t_in_lem, entries-many, opens, refused-tells, done-tells, standing}
-use Rattle.exam_rules.proofs.Parts.{tells-t, tells-entries, start_is, many_is, rules_are}
+use Rattle.exam_rules.proofs.Opens.{t_in_lem, entries-many, opens, refused-tells, done-tells, standing}
+use Rattle.exam_rules.proofs.Parts.{tells-t, tells-entries, many_is, rules_are}
 use Rattle.exam_rules.proofs.Accept.{opened-number}
+use Rattle.exam_opening.proofs.Finding.{directory, lists}
 use Rattle.listing.specs.Text.{exam_line, heading, slot_line, slot_lines, listing, most_text}
 use Rattle.listing.specs.Numbers.{most_listed, blocks_number, list_number}
 use Rattle.listing.specs.Calls.{listed, lists_number, Lists, Listed}
@@ -59,29 +59,16 @@ module _ (f : List ℕ) (exam : ℕ) (x : exam ≡ exam_in f) (tr : Trailer) (e 
   unfolding most_text
   room-is = omega (arith, tells-entries f tr opened-stands)
 
--- the directory stands from where the trailer says to the trailer itself
+-- what stands in a file that is open
 module _ (f : List ℕ) (tr : Trailer) (st : Standing f tr) where
   pub trailer_few : tr.entries ≤ 1024
   trailer_few = omega (arith, many_is f tr st, (rules_are f tr st).few)
 
-  pub trailer_long : 32 ≤ length f
-  trailer_long = (rules_are f tr st).long
-
   pub trailer_t : tr.t ≤ 16
   trailer_t = omega (arith, tells-t f tr st, t_in_lem f, (rules_are f tr st).t)
 
-  pub trailer-after : tr.start ≤ length f - 32
-  trailer-after = omega (arith, start_is f tr st, trails-ends f (rules_are f tr st))
-
-  pub directory_stands : Directory f (take (length f - 32 - tr.start) (drop tr.start f))
-  unfolding file_in
-  directory_stands =
-      let ends = trails-ends f (rules_are f tr st) in
-      let start = start_is f tr st in
-      record {
-        lists = listed-part f tr.start (entries_in f) (length f - 32 - tr.start) (omega (arith, start, ends)) (omega (arith, start, ends)) ∙ ap (λ (k : ℕ). entries_at f k (entries_in f)) start;
-        rule = st.directory;
-      }
+  pub directory_stands : Directory f (directory f tr st)
+  directory_stands = record { lists = lists f tr st; rule = st.directory }
 
 module _ (f : List ℕ) (room : ℕ) where
   pub number-long : most_listed < length f → 3 ≡ list_number f room
