@@ -34,7 +34,7 @@ module _ (f : List ℕ) (tr : Trailer) (st : Standing f tr) where
   abbrev pub directory : List ℕ
   directory = take (length f - 32 - tr.start) (drop tr.start f)
 
-  lists : listed directory ≡ (file_in f).entries
+  pub lists : listed directory ≡ (file_in f).entries
   lists = listed-part f tr.start tr.entries _ (omega (arith, directory-ends)) (omega (arith, directory-ends)) ∙ entries_are f tr st
 
   module _ (slot : ℕ) (r : Option ℕ) (e : r ≡ position (has slot) (listed directory)) where

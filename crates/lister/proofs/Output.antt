@@ -3,8 +3,7 @@ use Rattle.std.proofs.Common.{◌≡◌, ℕ, List, length, take, sym, ap, ◌�
 use Rattle.exam_rules.specs.Reading.{file_in}
 use Rattle.listing.specs.Text.{listing}
 use Rattle.listing.specs.Numbers.{list_number}
-use Rattle.listing.specs.Calls.{listed, Lists}
-use Rattle.listing.specs.declared.Listed.{Listed}
+use Rattle.listing.specs.Calls.{listed, Lists, Listed}
 use Rattle.streams.specs.Refusal.{output_of, errors_of}
 use Rattle.streams.proofs.Written.{done-output}
 use Rattle.lister.specs.Output.{lister_room, lister_output, lister_errors}

@@ -18,12 +18,10 @@ fn answer_input<O: Write, E: Write>(input: &[u8], output: &mut O, errors: &mut E
         (Appends (E.contents errors.old) (E.contents errors.new) (lister_errors input.now)) }
 {
     let mut text = [0u8; 23618];
-    let answer = listing::list(input, &mut text);
-    if answer.number != 0 {
-        return streams::say_refused(errors, answer.number);
+    match listing::list(input, &mut text) {
+        Ok(length) => output.write_all(&text[..length]),
+        Err(refusal) => streams::say_refused(errors, refusal.into()),
     }
-    let length = answer.length;
-    output.write_all(&text[..length])
 }
 
 // Lists all that there is to read, and writes the answer to it and nothing else. Where the input cannot
@@ -43,11 +41,7 @@ fn run<R: Read, O: Write, E: Write>(
 {
     // One byte more than it takes: that byte is the refusal, and nothing beyond it is read.
     let mut buffer = [0u8; 65537];
-    let input = streams::read_input(reader, &mut buffer);
-    if input.failed {
-        return Err(Failure::Unread);
-    }
-    let count = input.count;
+    let count = streams::read_input(reader, &mut buffer)?;
     match answer_input(&buffer[..count], output, errors) {
         Ok(()) => Ok(()),
         Err(_) => Err(Failure::Unwritten),

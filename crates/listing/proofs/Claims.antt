@@ -25,8 +25,7 @@ use Rattle.exam_rules.specs.Calls.{opened, opened_number}
 use Rattle.exam_rules.proofs.Answered.{open_one_of}
 use Rattle.listing.specs.Text.{ascii, decimal, exam_line, slot_line, listing, most_text}
 use Rattle.listing.specs.Numbers.{blocks_number, list_number}
-use Rattle.listing.specs.Calls.{listed, lists_number, Lists}
-use Rattle.listing.specs.declared.Listed.{Listed}
+use Rattle.listing.specs.Calls.{listed, lists_number, Lists, Listed}
 use Rattle.listing.proofs.Decimals.{read_on, decimal_read, Digits, decimal_digits, decimal-first}
 use Rattle.listing.proofs.Walks.{each_block, all_blocks}
 use Rattle.listing.proofs.Answers.{opened-whole, takes, takes_keep, listing-within, most_text_lem, lists_number_lem}

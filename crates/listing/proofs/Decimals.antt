@@ -1,5 +1,5 @@
 -- Decimal digits: one by one, how many there are, and what they read as. Nothing else but the claims opens `decimal`.
-use mathlib.Core.Path.{◌≡◌, refl, sym}
+use mathlib.Core.Path.{◌≡◌, refl}
 use mathlib.Core.List.{List, [], ◌∷◌, ◌++◌}
 use Prim.Native.Nat.{ℕ, zero, suc, ◌+◌, ◌-◌, ◌*◌, ◌/◌, ◌%◌, ◌^◌, ◌≤◌, ◌<◌}
 use native.Mathlib.Omega.{arith}
@@ -7,25 +7,14 @@ use native.Mathlib.Nat.{pow-suc, div-lt_iff_lt-mul}
 use lib.Dec.{ltb}
 use lib.ListN.{length, get_or, length-append, get_or-append}
 use borrow.Author.Tests.{lt-ltb, le-ltb, ltb-true, ltb-false}
+use Rattle.std.specs.Fmt.{decimal as std_decimal}
+use Rattle.std.proofs.lemmas.Fmt.{AppendsLastDigit, decimal_from_appends, length-decimal-le}
 use Rattle.words.proofs.Tests.{either}
 use Rattle.listing.specs.Text.{digit, decimal_of, decimal}
 
 -- what is left without the last digit has a digit less
 less : (k n : ℕ) → n < 10 ^ suc k → n / 10 < 10 ^ k
 less k n h = (div-lt_iff_lt-mul {k = 10} {x = n} {y = 10 ^ k} (omega arith)).1 (rw pow-suc at h)
-
--- where k digits are enough, one more changes nothing
-enough : (k n : ℕ) → n < 10 ^ suc k → decimal_of (suc (suc k)) n ≡ decimal_of (suc k) n
-enough zero n h = rw (lt-ltb n 10 (omega arith))
-enough (suc k) n h = either (ltb n 10) (λ q. rw q) (λ q. rw (q, enough k (n / 10) (less (suc k) n h)))
-
-pub decimal-one : (n : ℕ) → n < 10 → decimal n ≡ digit n
-unfolding decimal
-decimal-one n h = rw (lt-ltb n 10 h)
-
-pub decimal-more : (n : ℕ) → n < 10 ^ 20 → 10 ≤ n → decimal n ≡ decimal (n / 10) ++ digit (n % 10)
-unfolding decimal
-decimal-more n h l = rw (le-ltb n 10 l, sym (enough 18 (n / 10) (less 19 n h)))
 
 -- a number below 10 ^ k has at most k digits
 digits_at_most : (k j n : ℕ) → n < 10 ^ suc k → length (decimal_of j n) ≤ suc k
@@ -39,11 +28,13 @@ pub decimal-at_most : (k n : ℕ) → n < 10 ^ suc k → length (decimal n) ≤ 
 unfolding decimal
 decimal-at_most k n h = digits_at_most k 20 n h
 
-pub length-one : (n : ℕ) → n < 10 → length (decimal n) ≡ 1
-length-one n h = rw (decimal-one n h)
+-- the library's words for an integer's digits say the same
+appends_last : AppendsLastDigit decimal_of
+appends_last = record { one = λ k n h. rw (lt-ltb n 10 h); more = λ k n h. rw (le-ltb n 10 h) }
 
-pub length_more : (n : ℕ) → n < 10 ^ 20 → 10 ≤ n → length (decimal n) ≡ length (decimal (n / 10)) + 1
-length_more n h l = rw (decimal-more n h l) (length-append (decimal (n / 10)) (digit (n % 10)))
+pub decimal-is : (n : ℕ) → n < 2 ^ 64 → decimal n ≡ std_decimal n
+unfolding decimal
+decimal-is n h = decimal_from_appends decimal_of appends_last 20 n h (length-decimal-le 20 n (omega arith) (omega arith) h)
 
 -- ---- what digits read as
 

@@ -1,33 +1,34 @@
 -- What the inner functions require and ensure. No promise of a call is stated here.
 use Rattle.std.specs.Prelude.{◌≡◌, ℕ, ◌+◌, ◌≤◌, List, length}
 use Rattle.std.proofs.lemmas.List.Edits.{sets}
-use Rattle.exam_rules.specs.Reading.{directory_at, entries_in, entry_at, file_in}
-use Rattle.exam_rules.specs.Numbers.{trailer_number, directory_number}
-use Rattle.listing.specs.Text.{slot_lines, listing}
+use Rattle.exam_rules.specs.Reading.{directory_at, entry_at, file_in}
+use Rattle.exam_rules.specs.Numbers.{directory_number}
+use Rattle.exam_rules.specs.Inside.{listed, Standing}
+use Rattle.exam_rules.specs.declared.Trailer.{Trailer}
+use Rattle.listing.specs.Text.{listing}
+use Rattle.listing.specs.declared.text.Text.{Text}
 
--- bytes are put into a list from a place on; they end where the next may start
-pub record Puts (out : List ℕ) (at : ℕ) (bytes out' : List ℕ) (end : ℕ) : Type 0 where
-  pub ends : end ≡ at + length bytes
-  pub left : out' ≡ sets out at bytes
+-- room for more bytes behind a text
+pub record HasRoom (text : Text) (bytes : List ℕ) : Type 0 where
+  pub room : text.length + length bytes ≤ length text.bytes.now
 
--- an entry of 12 bytes at a place of a file, whose block ends where the directory starts or before
-pub record Points (f : List ℕ) (place : ℕ) : Type 0 where
-  pub room : place + 12 ≤ length f
-  pub within : (entry_at f place).offset + (entry_at f place).size ≤ directory_at f
+-- what a text is once bytes were put behind it, in the same lent bytes
+pub record Extends (text : Text) (bytes : List ℕ) (text' : Text) : Type 0 where
+  pub same : text'.bytes.ghost_name ≡ text.bytes.ghost_name
+  pub ends : text'.length ≡ text.length + length bytes
+  pub left : text'.bytes.now ≡ sets text.bytes.now text.length bytes
 
--- a file whose trailer and directory keep their rules, where its directory starts, and how many entries it has
-pub record Stands (f : List ℕ) (start n : ℕ) : Type 0 where
-  pub start_is : start ≡ directory_at f
-  pub many : n ≡ entries_in f
-  pub rules : trailer_number f ≡ 0
-  pub directory : directory_number (file_in f) ≡ 0
+-- the bytes of an entry, whose block ends where the directory starts or before
+pub record Points (f bytes : List ℕ) : Type 0 where
+  pub long : length bytes ≡ 12
+  pub within : (entry_at bytes 0).offset + (entry_at bytes 0).size ≤ directory_at f
 
--- such a file, with room for the lines of its slots
-pub record Lining (f : List ℕ) (start n : ℕ) (out : List ℕ) (at : ℕ) : Type 0 where
-  pub stands : Stands f start n
-  pub room : at + length (slot_lines (file_in f) (file_in f).entries) ≤ length out
+-- the bytes of a file's directory, which keeps its rule
+pub record Directory (f directory : List ℕ) : Type 0 where
+  pub lists : listed directory ≡ (file_in f).entries
+  pub rule : directory_number (file_in f) ≡ 0
 
--- such a file, with room for its whole text
-pub record Listable (f text : List ℕ) : Type 0 where
-  pub stands : Stands f (directory_at f) (entries_in f)
-  pub room : length (listing (file_in f)) ≤ length text
+-- a file that is open, with its trailer, and room for its whole text
+pub record Listable (f : List ℕ) (tr : Trailer) (text : Text) : Type 0 where
+  pub stands : Standing f tr
+  pub room : HasRoom text (listing (file_in f))
