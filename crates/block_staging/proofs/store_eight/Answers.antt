@@ -1,5 +1,5 @@
 use Rattle.std.proofs.Common.{arith, length-set}
-use Rattle.block_staging.proofs.Stage.{eight_stored}
+use Rattle.block_staging.proofs.Staging.{eight_stored}
 use Rattle.block_staging.proofs.store_eight.Goals as goal
 
 pub bounds-stage-at-2 : goal.bounds-stage-at-2
