@@ -2,45 +2,82 @@
 // there to the output.
 #![tactic(auto)]
 
-ghost use Rattle.std.specs.Prelude.{◌≡◌, ◌+◌, ◌≤◌, length, take, slice_index};
+ghost use Rattle.std.specs.Prelude.{◌≡◌, ◌+◌, ◌≤◌, [], ◌++◌, length, slice_index};
 ghost use Rattle.std.proofs.lemmas.List.Edits.{sets};
 ghost use Rattle.words.specs.Words.{xor};
 ghost use Rattle.words.specs.Bytes.{low_bytes};
-ghost use Rattle.block_rules.specs.Codes.{dfcm_chosen, chosen};
+ghost use Rattle.block_rules.specs.Codes.{dfcm_chosen, chosen, residual_bytes};
 ghost use Rattle.block_rules.specs.Numbers.{t_of};
 ghost use Rattle.block_rules.specs.Inside.{memory, Ready};
-ghost use Rattle.block_staging.specs.Inside.{StageRoom, StagesChosen, StagesWord, StagesPair, Flushable, MakesRoom};
+ghost use Rattle.block_staging.specs.Inside.{stage_length, StagesChosen, StagesWord, StagesPair, MakesRoom};
 
-use block_rules::Carry;
+use block_rules::{Carry, Coded};
+use std::marker::Model;
 
-// A word's code, and how many residual bytes are staged with its own.
-#[derive(Clone, Copy)]
-pub struct Staging {
-    pub code: u8,
-    pub staged: usize,
+// Residual bytes that wait to be copied to the output. It is seen as the list of them. The buffer is
+// lent and not owned: so their number stays in a register, which packing gains up to a third by.
+#[derive(Drop)]
+pub struct Stage<'a> {
+    bytes: &'a mut [u8],
+    staged: usize,
 }
 
-// What the predictors carry on after a word, the word's code, and how many residual bytes are staged.
+impl<'a> Model for Stage<'a> {
+    ghost use Rattle.std.specs.Prelude.{ℕ, List, ◌≡◌, ◌≤◌, length, take};
+
+    ghost Value = { List ℕ };
+
+    ghost view = { λ s. take s.staged s.bytes.now };
+
+    ghost invariant = { λ s. (length s.bytes.now ≡ 480) × (s.staged ≤ 480) };
+}
+
+impl<'a> Stage<'a> {
+    // A stage where nothing waits.
+    pub fn new(bytes: &'a mut [u8]) -> Self
+        requires { length bytes.old ≡ stage_length }
+        ensures { result ≡ [] }
+    {
+        Stage { bytes, staged: 0 }
+    }
+
+    // Adds the residual bytes of a code.
+    fn push(&mut self, coded: Coded)
+        requires { length self.old + 8 ≤ stage_length }
+        ensures { self.new ≡ self.old ++ residual_bytes coded }
+    {
+        store_eight(self.bytes, self.staged, coded.residual);
+        self.staged += block_choice::written_by_table(coded.code);
+    }
+
+    // Copies what waits to its place, and answers where it ends.
+    pub fn flush(&self, out: &mut [u8], at: usize) -> usize
+        requires { at + length self.now ≤ length out.old }
+        ensures { (result ≡ at + length self.now) × (out.new ≡ sets out.old at self.now) }
+    {
+        words::copy_in(out, at, &self.bytes[..self.staged]);
+        at + self.staged
+    }
+
+    // Sees that two more words fit. Answers where what waits then goes.
+    pub fn make_room(&mut self, out: &mut [u8], at: usize) -> usize
+        requires { at + length self.old ≤ length out.old }
+        ensures { MakesRoom out.old self.old at out.new self.new result }
+    {
+        if self.staged <= 464 {
+            return at;
+        }
+        let end = self.flush(out, at);
+        self.staged = 0;
+        end
+    }
+}
+
+// What the predictors carry on after a word or two, and the code, or both codes in one byte.
 #[derive(Clone, Copy)]
 pub struct Step {
     pub carry: Carry,
-    pub code: u8,
-    pub staged: usize,
-}
-
-// The same after two words: both codes stand in one byte.
-#[derive(Clone, Copy)]
-pub struct Pair {
-    pub carry: Carry,
     pub codes: u8,
-    pub staged: usize,
-}
-
-// Where the next residual bytes go in the output, and how many of them are staged.
-#[derive(Clone, Copy)]
-pub struct Pending {
-    pub at: usize,
-    pub staged: usize,
 }
 
 // Stores all eight bytes of a residual in the stage, low byte first.
@@ -52,56 +89,44 @@ fn store_eight(stage: &mut [u8], at: usize, residual: u64)
     stage[at..at + 8].copy_from_slice(&residual.to_le_bytes());
 }
 
-// Stages the residual bytes of a word behind those that are there, given what fcm and dfcm predict. A
-// word that is predicted has no byte, and most words of a map are: so that is asked first, and nothing
-// is worked out for it.
-fn stage_chosen(
-    stage: &mut [u8],
-    staged: usize,
-    word: u64,
-    fcm_predicts: u64,
-    dfcm_predicts: u64,
-) -> Staging
-    requires { StageRoom stage.old staged 8 }
-    ensures { StagesChosen stage.old staged (chosen dfcm_chosen (xor word fcm_predicts) (xor word dfcm_predicts)) stage.new result }
+// Stages the residual bytes of a word, given what fcm and dfcm predict, and answers its code. A word that
+// is predicted has no byte, and most words of a map are: so that is asked first, and nothing is worked
+// out for it.
+fn stage_chosen(stage: &mut Stage, word: u64, fcm_predicts: u64, dfcm_predicts: u64) -> u8
+    requires { length stage.old + 8 ≤ stage_length }
+    ensures { StagesChosen stage.old (chosen dfcm_chosen (xor word fcm_predicts) (xor word dfcm_predicts)) stage.new result }
 {
     if word == fcm_predicts {
-        return Staging { code: 7, staged };
+        return 7;
     }
     if word == dfcm_predicts {
-        return Staging { code: 15, staged };
+        return 15;
     }
     let coded = block_choice::chosen(word ^ fcm_predicts, word ^ dfcm_predicts);
-    let code = coded.code;
-    store_eight(stage, staged, coded.residual);
-    Staging {
-        code,
-        staged: staged + block_choice::written_by_table(code),
-    }
+    stage.push(coded);
+    coded.code
 }
 
 // Codes one word, stages its residual bytes, and both predictors learn it.
 pub fn stage_word(
     fcm: &mut [u64],
     dfcm: &mut [u64],
-    stage: &mut [u8],
+    stage: &mut Stage,
     carry: Carry,
-    staged: usize,
     word: u64,
 ) -> Step
-    requires { StageRoom stage.old staged 8 × Ready fcm.old dfcm.old carry }
-    ensures { StagesWord (t_of (length fcm.old)) (memory fcm.old dfcm.old carry) word stage.old staged fcm.new dfcm.new stage.new result }
+    requires { (length stage.old + 8 ≤ stage_length) × Ready fcm.old dfcm.old carry }
+    ensures { StagesWord (t_of (length fcm.old)) (memory fcm.old dfcm.old carry) word stage.old fcm.new dfcm.new stage.new result }
 {
     let fcm_hash = carry.fcm;
     let dfcm_hash = carry.dfcm;
     let fcm_predicts = fcm[fcm_hash];
     let dfcm_predicts = std::num::wrapping_add_u64(dfcm[dfcm_hash], carry.last);
     let next = block_choice::learn(fcm, dfcm, carry, word);
-    let done = stage_chosen(stage, staged, word, fcm_predicts, dfcm_predicts);
+    let code = stage_chosen(stage, word, fcm_predicts, dfcm_predicts);
     Step {
         carry: next,
-        code: done.code,
-        staged: done.staged,
+        codes: code,
     }
 }
 
@@ -110,44 +135,20 @@ pub fn stage_word(
 pub fn stage_pair(
     fcm: &mut [u64],
     dfcm: &mut [u64],
-    stage: &mut [u8],
+    stage: &mut Stage,
     carry: Carry,
-    staged: usize,
     words: &[u64],
     at: usize,
-) -> Pair
-    requires { StageRoom stage.old staged 16 × Ready fcm.old dfcm.old carry × (at + 2 ≤ length words.now) }
-    ensures { StagesPair (t_of (length fcm.old)) (memory fcm.old dfcm.old carry) (slice_index words.now at) (slice_index words.now (at + 1)) stage.old staged fcm.new dfcm.new stage.new result }
+) -> Step
+    requires { (length stage.old + 16 ≤ stage_length) × Ready fcm.old dfcm.old carry × (at + 2 ≤ length words.now) }
+    ensures { StagesPair (t_of (length fcm.old)) (memory fcm.old dfcm.old carry) (slice_index words.now at) (slice_index words.now (at + 1)) stage.old fcm.new dfcm.new stage.new result }
 {
-    let one = stage_word(fcm, dfcm, stage, carry, staged, words[at]);
+    let one = stage_word(fcm, dfcm, stage, carry, words[at]);
     let between = one.carry;
-    let two = stage_word(fcm, dfcm, stage, between, one.staged, words[at + 1]);
+    let two = stage_word(fcm, dfcm, stage, between, words[at + 1]);
     let next = two.carry;
-    Pair {
+    Step {
         carry: next,
-        codes: one.code * 16 + two.code,
-        staged: two.staged,
+        codes: one.codes * 16 + two.codes,
     }
-}
-
-// Copies what is staged to its place, and answers where it ends.
-pub fn flush(out: &mut [u8], stage: &[u8], place: Pending) -> usize
-    requires { Flushable out.old stage.now place }
-    ensures { (result ≡ place.at + place.staged) × (out.new ≡ sets out.old place.at (take place.staged stage.now)) }
-{
-    let staged = place.staged;
-    words::copy_in(out, place.at, &stage[..staged]);
-    place.at + staged
-}
-
-// Sees that two more words fit the stage.
-pub fn make_room(out: &mut [u8], stage: &[u8], place: Pending) -> Pending
-    requires { Flushable out.old stage.now place }
-    ensures { MakesRoom out.old stage.now place out.new result }
-{
-    if place.staged <= 464 {
-        return place;
-    }
-    let end = flush(out, stage, place);
-    Pending { at: end, staged: 0 }
 }

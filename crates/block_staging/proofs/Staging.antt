@@ -15,7 +15,6 @@ use Rattle.block_rules.proofs.Choices.{chosen-fcm, chosen-dfcm, coded-small}
 use Rattle.block_rules.proofs.Choices.{zero_by_fcm, zero_by_dfcm}
 use Rattle.block_rules.proofs.Lengths.{length_residual}
 use Rattle.block_staging.specs.Inside.{StagesChosen, StagesWord, StagesPair}
-use Rattle.block_staging.specs.declared.Staging.{Staging}
 use Rattle.block_staging.specs.declared.Step.{Step}
 
 -- ---- eight bytes
@@ -38,38 +37,27 @@ eight_staged stage staged k x h l =
 
 -- ---- the chosen residual
 
-pub chosen-staged : (stage stage' : List ℕ) (staged : ℕ) (c x : Coded) → staged + 8 ≤ length stage → x ≡ c → stage' ≡ sets stage staged (low_bytes 8 x.residual)
-    → (k : ℕ) → k ≡ written x.code → StagesChosen stage staged c stage' (record { code = x.code; staged = staged + k })
+-- of the eight bytes stored those of the code are staged
+pub code_staged : (bytes : List ℕ) (staged : ℕ) (c : Coded) (k : ℕ) → staged + 8 ≤ length bytes → k ≡ written c.code
+    → take (staged + k) (sets bytes staged (low_bytes 8 c.residual)) ≡ take staged bytes ++ residual_bytes c
 unfolding residual_bytes
-chosen-staged stage stage' staged c x h e q k w =
-    record {
-      code_is = ap (λ (y : Coded). y.code) e;
-      bytes =
-          record {
-            count = rw (w, e, length_low) refl;
-            held = rw (w, q, e) (eight_staged stage staged (written c.code) c.residual h (written_small c.code));
-          };
-    }
+code_staged bytes staged c k h e = rw e (eight_staged bytes staged (written c.code) c.residual h (written_small c.code))
 
 -- a residual of 0 has nothing to stage
-nothing_staged : (stage : List ℕ) (staged code : ℕ) (c : Coded) → c ≡ record { code = code; residual = 0 } → written code ≡ 0 → StagesChosen stage staged c stage (record { code = code; staged = staged })
+nothing_staged : (stage : List ℕ) (code : ℕ) (c : Coded) → c ≡ record { code = code; residual = 0 } → written code ≡ 0 → StagesChosen stage c stage code
 unfolding residual_bytes
-nothing_staged stage staged code c e z =
-    record {
-      code_is = sym (ap (λ (y : Coded). y.code) e);
-      bytes = record { count = rw (e, z) (sym (add-zero staged)); held = rw (e, z) (sym (append-nil _)) };
-    }
+nothing_staged stage code c e z = record { code_is = sym (ap (λ (y : Coded). y.code) e); bytes = rw (e, z) (sym (append-nil _)) }
 
-pub fcm_zero : (stage : List ℕ) (staged f d : ℕ) → f ≡ 0 → StagesChosen stage staged (chosen dfcm_chosen f d) stage (record { code = 7; staged = staged })
+pub fcm_zero : (stage : List ℕ) (f d : ℕ) → f ≡ 0 → StagesChosen stage (chosen dfcm_chosen f d) stage 7
 unfolding coded_by low_three written
-fcm_zero stage staged f d e =
-    nothing_staged stage staged 7 (chosen dfcm_chosen f d)
+fcm_zero stage f d e =
+    nothing_staged stage 7 (chosen dfcm_chosen f d)
     (sym (chosen-fcm dfcm_chosen f d (record { code = 7; residual = 0 }) (zero_by_fcm f d e) (rw (zeros_of_zero f e, e)))) refl
 
-pub dfcm_zero : (stage : List ℕ) (staged f d : ℕ) → f < 2 ^ 64 → (f ≡ 0 → ⊥) → d ≡ 0 → StagesChosen stage staged (chosen dfcm_chosen f d) stage (record { code = 15; staged = staged })
+pub dfcm_zero : (stage : List ℕ) (f d : ℕ) → f < 2 ^ 64 → (f ≡ 0 → ⊥) → d ≡ 0 → StagesChosen stage (chosen dfcm_chosen f d) stage 15
 unfolding coded_by low_three written
-dfcm_zero stage staged f d h n e =
-    nothing_staged stage staged 15 (chosen dfcm_chosen f d)
+dfcm_zero stage f d h n e =
+    nothing_staged stage 15 (chosen dfcm_chosen f d)
     (sym (chosen-dfcm dfcm_chosen f d (record { code = 15; residual = 0 }) (zero_by_dfcm f d h (omega (arith, n)) e) (rw (zeros_of_zero d e, e)))) refl
 
 -- ---- a word, and two
@@ -80,33 +68,27 @@ pub coded-word : (f d : List ℕ) (c : Carry) (v p q : ℕ) → p ≡ get_or f c
 unfolding coded_word fcm_residual dfcm_residual fcm_prediction dfcm_prediction
 coded-word f d c v p q e g = cc
 
-pub word-staged : (t : ℕ) (m : Memory) (v : ℕ) (stage : List ℕ) (staged : ℕ) (f d stage' : List ℕ) (c : Carry) (r : Staging) (x : Coded)
-    → x ≡ coded_word dfcm_chosen m v → memory f d c ≡ learn t m v → StagesChosen stage staged x stage' r
-    → StagesWord t m v stage staged f d stage' (record { carry = c; code = r.code; staged = r.staged })
-word-staged t m v stage staged f d stage' c r x e l s =
+pub word-staged : (t : ℕ) (m : Memory) (v : ℕ) (stage f d stage' : List ℕ) (c : Carry) (code : ℕ) (x : Coded)
+    → x ≡ coded_word dfcm_chosen m v → memory f d c ≡ learn t m v → StagesChosen stage x stage' code
+    → StagesWord t m v stage f d stage' (record { carry = c; codes = code })
+word-staged t m v stage f d stage' c code x e l s =
     record { code_is = s.code_is ∙ ap (λ (y : Coded). y.code) e; learnt = l; bytes = rw (← e) s.bytes }
 
 -- a word's code has four bits, and it stages at most eight bytes
-module _ {t : ℕ} {m : Memory} {v : ℕ} {stage : List ℕ} {staged : ℕ} {f d stage' : List ℕ} {r : Step} (s : StagesWord t m v stage staged f d stage' r) where
-  pub word-code : r.code ≤ 15
+module _ {t : ℕ} {m : Memory} {v : ℕ} {stage f d stage' : List ℕ} {r : Step} (s : StagesWord t m v stage f d stage' r) where
+  pub word-code : r.codes ≤ 15
   word-code = rw s.code_is (coded-small dfcm_chosen m v)
 
-  pub word_room : r.staged ≤ staged + 8
-  word_room = omega (arith, s.bytes.count, length_residual (coded_word dfcm_chosen m v), written_small (coded_word dfcm_chosen m v).code)
+  pub word_room : length stage' ≤ length stage + 8
+  word_room =
+      let x = coded_word dfcm_chosen m v in
+      rw s.bytes (omega (arith, length-append stage (residual_bytes x), length_residual x, written_small x.code))
 
-pub pair_staged : (t : ℕ) (m : Memory) (v w : ℕ) (stage stage₁ stage' f₁ d₁ f d : List ℕ) (staged : ℕ) (r s : Step)
-    → StagesWord t m v stage staged f₁ d₁ stage₁ r → StagesWord t (memory f₁ d₁ r.carry) w stage₁ r.staged f d stage' s
-    → StagesPair t m v w stage staged f d stage' (record { carry = s.carry; codes = r.code * 16 + s.code; staged = s.staged })
-pair_staged t m v w stage stage₁ stage' f₁ d₁ f d staged r s p q =
+pub pair_staged : (t : ℕ) (m : Memory) (v w : ℕ) (stage stage₁ stage' f₁ d₁ f d : List ℕ) (r s : Step)
+    → StagesWord t m v stage f₁ d₁ stage₁ r → StagesWord t (memory f₁ d₁ r.carry) w stage₁ f d stage' s
+    → StagesPair t m v w stage f d stage' (record { carry = s.carry; codes = r.codes * 16 + s.codes })
+pair_staged t m v w stage stage₁ stage' f₁ d₁ f d r s p q =
     let x = coded_word dfcm_chosen m v in
     let y = coded_word dfcm_chosen (learn t m v) w in
-    let q' : StagesWord t (learn t m v) w stage₁ r.staged f d stage' s = rw p.learnt at q in
-    record {
-      codes_are = rw (p.code_is, q'.code_is);
-      learnt = q'.learnt;
-      bytes =
-          record {
-            count = omega (arith, p.bytes.count, q'.bytes.count, length-append (residual_bytes x) (residual_bytes y));
-            held = q'.bytes.held ∙ rw p.bytes.held (append_assoc (take staged stage) (residual_bytes x) (residual_bytes y));
-          };
-    }
+    let q' : StagesWord t (learn t m v) w stage₁ f d stage' s = rw p.learnt at q in
+    record { codes_are = rw (p.code_is, q'.code_is); learnt = q'.learnt; bytes = q'.bytes ∙ rw p.bytes (append_assoc stage (residual_bytes x) (residual_bytes y)) }
