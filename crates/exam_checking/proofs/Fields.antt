@@ -7,8 +7,8 @@ use native.Mathlib.Omega.{arith}
 use lib.ListN.{length, take, drop}
 use Rattle.words.specs.Bytes.{same_bytes}
 use Rattle.exam_rules.specs.File.{mark}
-use Rattle.exam_rules.specs.Reading.{mark_in, edition_in, t_in, distance_in, entries_in, length_in, directory_at, file_in}
-use Rattle.exam_rules.specs.Numbers.{fields_number, joins, entries_number, directory_number}
+use Rattle.exam_rules.specs.Reading.{mark_in, distance_in, entries_in, directory_at, file_in}
+use Rattle.exam_rules.specs.Numbers.{joins, entries_number, directory_number}
 use Rattle.exam_rules.specs.Inside.{listed}
 use Rattle.exam_rules.proofs.Opens.{Trails, trails-ends, directory-is}
 use Rattle.exam_rules.proofs.Listed.{listed-part}
@@ -17,10 +17,6 @@ pub mark_read : (f : List ℕ) (s r : Bool) → 32 ≤ length f → s ≡ same_b
 mark_read f s r h e q =
     let k : length f - 32 + 4 - (length f - 32) ≡ 4 = omega arith in
     sym (rw k at e) ∙ q
-
-pub fields_read : (f : List ℕ) (edition t distance entries stated r : ℕ) → edition ≡ edition_in f → t ≡ t_in f → distance ≡ distance_in f → entries ≡ entries_in f → stated ≡ length_in f
-    → r ≡ fields_number edition t distance entries stated (length f) → r ≡ fields_number (edition_in f) (t_in f) (distance_in f) (entries_in f) (length_in f) (length f)
-fields_read f edition t distance entries stated r a b c d e q = cc
 
 -- the directory, between its place and the trailer, lists the entries
 pub directory_read : (f : List ℕ) (distance k : ℕ) → Trails f → distance ≡ distance_in f

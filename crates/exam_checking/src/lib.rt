@@ -9,13 +9,15 @@ ghost use Rattle.exam_rules.specs.Inside.{listed};
 use answers::Refusal;
 
 // Whether there is such an edition.
+#[tactic(auto, unfolding(exam_rules::specs::Numbers::edition_known))]
 fn edition_known(edition: u64) -> bool
     ensures { result ≡ edition_known edition }
 {
     edition == 1
 }
 
-// The rules of the trailer's numbers, at the end of a file of a length.
+// Refuses a trailer whose numbers break the rules, at the end of a file of a length.
+#[tactic(auto, using(std::proofs::lemmas::Bool::Decides::nat_tests), unfolding(exam_rules::specs::Numbers::fields_number, answers::specs::Answers::unless, answers::specs::Answers::first_failure))]
 fn check_fields(
     edition: u64,
     t: u64,
@@ -47,7 +49,8 @@ fn check_fields(
     Ok(())
 }
 
-// The rules of the trailer, but for the exam number.
+// Refuses a trailer that breaks the rules, but for the exam number.
+#[tactic(auto, using(std::proofs::lemmas::Bool::Decides::nat_tests, crate::proofs::Fields::mark_read), unfolding(exam_rules::specs::Numbers::trailer_number, answers::specs::Answers::unless, answers::specs::Answers::first_failure))]
 fn check_trailer(file: &[u8]) -> Result<(), Refusal>
     ensures { number_told result ≡ trailer_number file.now }
 {
@@ -72,6 +75,7 @@ fn check_trailer(file: &[u8]) -> Result<(), Refusal>
 }
 
 // Whether what comes next may start where it does.
+#[tactic(auto, unfolding(exam_rules::specs::Numbers::joins))]
 fn joins(end: u64, next: u64) -> bool
     ensures { result ≡ joins end next }
 {
@@ -106,7 +110,8 @@ fn check_entries(directory: &[u8], start: usize) -> Result<(), Refusal>
     Ok(())
 }
 
-// Whether a whole file opens.
+// Refuses a file that does not open for an exam.
+#[tactic(auto, using(std::proofs::lemmas::Bool::Decides::nat_tests, exam_rules::proofs::Opens::trails, crate::proofs::Fields::directory_read), unfolding(exam_rules::specs::Numbers::open_number, answers::specs::Answers::unless, answers::specs::Answers::first_failure))]
 fn check_open(file: &[u8], exam: u64) -> Result<(), Refusal>
     ensures { number_told result ≡ open_number file.now exam }
 {
@@ -122,7 +127,8 @@ fn check_open(file: &[u8], exam: u64) -> Result<(), Refusal>
     check_entries(&file[start..at], start)
 }
 
-// Whether the first bytes of a buffer open as a file.
+// Refuses a buffer whose first bytes do not open as a file for an exam.
+#[tactic(auto, using(std::proofs::lemmas::Bool::Decides::nat_tests), unfolding(exam_rules::specs::Numbers::open_in_number, answers::specs::Answers::unless, answers::specs::Answers::first_failure))]
 pub fn check_open_in(file: &[u8], length: usize, exam: u64) -> Result<(), Refusal>
     ensures { number_told result ≡ open_in_number file.now length exam }
 {
@@ -132,7 +138,8 @@ pub fn check_open_in(file: &[u8], length: usize, exam: u64) -> Result<(), Refusa
     check_open(&file[..length], exam)
 }
 
-// Whether the tables are of one length, and of 2^t words.
+// Refuses tables that differ in length or are not of 2^t words.
+#[tactic(auto, using(std::proofs::lemmas::Bool::Decides::nat_tests), unfolding(exam_rules::specs::Numbers::file_tables_number, answers::specs::Answers::unless, answers::specs::Answers::first_failure))]
 pub fn check_file_tables(t: usize, fcm: usize, dfcm: usize) -> Result<(), Refusal>
     requires { t ≤ 16 }
     ensures { number_told result ≡ file_tables_number t fcm dfcm }
@@ -146,7 +153,8 @@ pub fn check_file_tables(t: usize, fcm: usize, dfcm: usize) -> Result<(), Refusa
     Ok(())
 }
 
-// Whether words can be stored as a block in a file, beside so many bytes that are kept.
+// Refuses words that cannot be stored as a block in a file, beside so many bytes that are kept.
+#[tactic(auto, using(std::proofs::lemmas::Bool::Decides::nat_tests), unfolding(exam_rules::specs::Numbers::store_number, answers::specs::Answers::unless, answers::specs::Answers::first_failure))]
 pub fn check_store(
     t: usize,
     count: usize,

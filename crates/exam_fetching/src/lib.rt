@@ -13,6 +13,7 @@ use answers::Refusal;
 use exam_rules::Trailer;
 
 // Refuses a block that is found, but whose words cannot be fetched.
+#[tactic(auto, using(std::proofs::lemmas::Bool::Decides::nat_tests), unfolding(exam_rules::specs::Numbers::found_number, block_rules::specs::Calls::checked, answers::specs::Answers::unless, answers::specs::Answers::first_failure, answers::specs::Answers::afterwards))]
 fn check_fetch(block: &[u8], t: usize, fcm: usize, dfcm: usize, room: usize) -> Result<(), Refusal>
     requires { t ≤ 16 }
     ensures { number_told result ≡ found_number 0 block.now t fcm dfcm room }

@@ -27,15 +27,15 @@ use Rattle.exam_opening.specs.declared.Part.{Part}
 -- ---- the part of a slot in a file that is open
 
 module _ (f : List ℕ) (tr : Trailer) (st : Standing f tr) where
-  pub directory-ends : tr.start + 12 * tr.entries + 32 ≡ length f
-  directory-ends = omega (arith, trails-ends f (rules_are f tr st), start_is f tr st, many_is f tr st)
+  pub directory_ends : tr.start + 12 * tr.entries + 32 ≡ length f
+  directory_ends = omega (arith, trails-ends f (rules_are f tr st), start_is f tr st, many_is f tr st)
 
   -- the bytes between the directory's place and the trailer
   abbrev pub directory : List ℕ
   directory = take (length f - 32 - tr.start) (drop tr.start f)
 
   pub lists : listed directory ≡ (file_in f).entries
-  lists = listed-part f tr.start tr.entries _ (omega (arith, directory-ends)) (omega (arith, directory-ends)) ∙ entries_are f tr st
+  lists = listed-part f tr.start tr.entries _ (omega (arith, directory_ends)) (omega (arith, directory_ends)) ∙ entries_are f tr st
 
   module _ (slot : ℕ) (r : Option ℕ) (e : r ≡ position (has slot) (listed directory)) where
     pub part_missing : r ≡ None → 10 ≡ slot_number (file_in f) slot

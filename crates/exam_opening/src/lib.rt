@@ -12,6 +12,7 @@ use answers::{Refusal, number_told};
 use exam_rules::{BlockPlace, Trailer};
 
 // What the trailer of a file tells, where it keeps its rules.
+#[tactic(auto, using(exam_rules::proofs::Opens::trails))]
 pub fn trailer(file: &[u8]) -> Trailer
     requires { trailer_number file.now ≡ 0 }
     ensures { result ≡ trailer_of (file_in file.now) }
@@ -51,6 +52,7 @@ pub struct Part {
 }
 
 // Finds a slot in a file that is open.
+#[tactic(auto, using(crate::proofs::Finding::directory_ends))]
 pub fn part_of(file: &[u8], trailer: Trailer, slot: u32) -> Result<Part, Refusal>
     requires { Standing file.now trailer }
     ensures { PartOf file.now slot result }

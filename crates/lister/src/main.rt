@@ -25,7 +25,8 @@ fn answer_input<O: Write, E: Write>(input: &[u8], output: &mut O, errors: &mut E
 }
 
 // Lists all that there is to read, and writes the answer to it and nothing else. Where the input cannot
-// be read, nothing is written.
+// be read, nothing is written. (The packer has a run of its own much like this one: a trait that says what
+// the two answer would be longer than both.)
 fn run<R: Read, O: Write, E: Write>(
     reader: &mut R,
     output: &mut O,
@@ -42,10 +43,7 @@ fn run<R: Read, O: Write, E: Write>(
     // One byte more than it takes: that byte is the refusal, and nothing beyond it is read.
     let mut buffer = [0u8; 65537];
     let count = streams::read_input(reader, &mut buffer)?;
-    match answer_input(&buffer[..count], output, errors) {
-        Ok(()) => Ok(()),
-        Err(_) => Err(Failure::Unwritten),
-    }
+    answer_input(&buffer[..count], output, errors).map_err(|_| Failure::Unwritten)
 }
 
 fn main(rt: HostRuntime) -> io::Result<()> {

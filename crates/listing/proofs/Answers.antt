@@ -1,10 +1,10 @@
 -- The number that listing answers, the whole text and how long it gets. Nothing else but the claims opens `list_number`, `listing`, `most_text` and `listed`.
 use mathlib.Core.Path.{◌≡◌, refl, sym, ap, ◌∙◌}
 use mathlib.Core.List.{List, [], ◌∷◌, ◌++◌, append_assoc}
-use Prim.Native.Nat.{ℕ, zero, suc, ◌+◌, ◌-◌, ◌*◌, ◌^◌, ◌≤◌, ◌<◌}
+use Prim.Native.Nat.{ℕ, zero, suc, ◌+◌, ◌*◌, ◌^◌, ◌≤◌, ◌<◌}
 use native.Mathlib.Omega.{arith}
 use lib.Dec.{leb}
-use lib.ListN.{length, take, drop, length-append}
+use lib.ListN.{length, length-append}
 use lib.Pow.{pow_mono}
 use lib.Seq.{sets, take-length}
 use borrow.Author.Tests.{le-leb, lt-leb, leb-true}
@@ -135,11 +135,11 @@ power_small t h = omega (arith, pow_mono {i = t} {j = 16} h)
 
 exam_line_within : (exam t slots : ℕ) → exam < 2 ^ 64 → t ≤ 16 → slots ≤ 1024 → length (exam_line exam t slots) ≤ 49
 exam_line_within exam t slots a b c =
-    omega (arith, length-exam_line exam t slots, decimal-at_most 19 exam (omega arith), decimal-at_most 4 (2 ^ t) (power_small t b), decimal-at_most 3 slots (omega arith))
+    omega (arith, length-exam_line exam t slots, decimal-at_most 20 exam (omega arith) (omega arith) (omega arith), decimal-at_most 5 (2 ^ t) (omega arith) (power_small t b) (omega (arith, power_small t b)), decimal-at_most 4 slots (omega arith) (omega arith) (omega arith))
 
 slot_line_within : (slot words bytes : ℕ) → slot < 2 ^ 32 → words ≤ 65536 → bytes ≤ 65536 → length (slot_line slot words bytes) ≤ 23
 slot_line_within slot words bytes a b c =
-    omega (arith, length-slot_line slot words bytes, decimal-at_most 9 slot (omega arith), decimal-at_most 4 words (omega arith), decimal-at_most 4 bytes (omega arith))
+    omega (arith, length-slot_line slot words bytes, decimal-at_most 10 slot (omega arith) (omega arith) (omega arith), decimal-at_most 5 words (omega arith) (omega arith) (omega arith), decimal-at_most 5 bytes (omega arith) (omega arith) (omega arith))
 
 slot_small : (f : List ℕ) (at : ℕ) → Bytes f → (entry_at f at).slot < 2 ^ 32
 unfolding entry_at

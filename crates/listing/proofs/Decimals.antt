@@ -1,40 +1,28 @@
--- Decimal digits: one by one, how many there are, and what they read as. Nothing else but the claims opens `decimal`.
+-- Decimal digits: those of the library, how many there are, and what they read as. Nothing else but the claims opens `decimal`.
 use mathlib.Core.Path.{◌≡◌, refl}
 use mathlib.Core.List.{List, [], ◌∷◌, ◌++◌}
 use Prim.Native.Nat.{ℕ, zero, suc, ◌+◌, ◌-◌, ◌*◌, ◌/◌, ◌%◌, ◌^◌, ◌≤◌, ◌<◌}
 use native.Mathlib.Omega.{arith}
-use native.Mathlib.Nat.{pow-suc, div-lt_iff_lt-mul}
 use lib.Dec.{ltb}
 use lib.ListN.{length, get_or, length-append, get_or-append}
-use borrow.Author.Tests.{lt-ltb, le-ltb, ltb-true, ltb-false}
+use borrow.Author.Tests.{lt-ltb, le-ltb, ltb-true}
 use Rattle.std.specs.Fmt.{decimal as std_decimal}
-use Rattle.std.proofs.lemmas.Fmt.{AppendsLastDigit, decimal_from_appends, length-decimal-le}
+use Rattle.std.proofs.lemmas.Fmt.{AppendsLastDigit, decimal_from_appends_wide, decimal_by_steps_wide, length-decimal-le_wide}
 use Rattle.words.proofs.Tests.{either}
 use Rattle.listing.specs.Text.{digit, decimal_of, decimal}
 
--- what is left without the last digit has a digit less
-less : (k n : ℕ) → n < 10 ^ suc k → n / 10 < 10 ^ k
-less k n h = (div-lt_iff_lt-mul {k = 10} {x = n} {y = 10 ^ k} (omega arith)).1 (rw pow-suc at h)
+-- ---- the library's digits of a number are the same
 
--- a number below 10 ^ k has at most k digits
-digits_at_most : (k j n : ℕ) → n < 10 ^ suc k → length (decimal_of j n) ≤ suc k
-digits_at_most k zero n h = omega arith
-digits_at_most zero (suc j) n h = rw (lt-ltb n 10 (omega arith)) (omega arith)
-digits_at_most (suc k) (suc j) n h =
-    either (ltb n 10) (λ q. rw q (omega arith))
-    (λ q. rw q (omega (arith, length-append (decimal_of j (n / 10)) (digit (n % 10)), digits_at_most k j (n / 10) (less (suc k) n h))))
-
-pub decimal-at_most : (k n : ℕ) → n < 10 ^ suc k → length (decimal n) ≤ suc k
-unfolding decimal
-decimal-at_most k n h = digits_at_most k 20 n h
-
--- the library's words for an integer's digits say the same
 appends_last : AppendsLastDigit decimal_of
 appends_last = record { one = λ k n h. rw (lt-ltb n 10 h); more = λ k n h. rw (le-ltb n 10 h) }
 
-pub decimal-is : (n : ℕ) → n < 2 ^ 64 → decimal n ≡ std_decimal n
+pub decimal-is : (n : ℕ) → n < 10 ^ 20 → decimal n ≡ std_decimal n
 unfolding decimal
-decimal-is n h = decimal_from_appends decimal_of appends_last 20 n h (length-decimal-le 20 n (omega arith) (omega arith) h)
+decimal-is n h = decimal_from_appends_wide decimal_of appends_last 20 n (omega arith) (length-decimal-le_wide 20 n (omega arith) h (omega arith))
+
+-- a number below 10 ^ k has at most k digits
+pub decimal-at_most : (k n : ℕ) → 0 < k → n < 10 ^ k → n < 10 ^ 20 → length (decimal n) ≤ k
+decimal-at_most k n p h small = rw (decimal-is n small) (length-decimal-le_wide k n p h (omega arith))
 
 -- ---- what digits read as
 
@@ -47,15 +35,10 @@ read_append : (n : ℕ) (xs ys : List ℕ) → read_on n (xs ++ ys) ≡ read_on 
 read_append n [] ys = refl
 read_append n (x ∷ xs) ys = read_append (10 * n + (x - 48)) xs ys
 
-digits_read : (k n : ℕ) → n < 10 ^ k → read_on 0 (decimal_of k n) ≡ n
-digits_read zero n h = omega arith
-digits_read (suc k) n h =
-    either (ltb n 10) (λ q. rw q (omega arith))
-    (λ q. rw (q, read_append 0 (decimal_of k (n / 10)) (digit (n % 10)), digits_read k (n / 10) (less k n h)) (omega arith))
-
 pub decimal_read : (n : ℕ) → n < 10 ^ 20 → read_on 0 (decimal n) ≡ n
-unfolding decimal
-decimal_read n h = digits_read 20 n h
+decimal_read n h =
+    rw (decimal-is n h)
+    (decimal_by_steps_wide (λ m ds. read_on 0 ds ≡ m) (λ m l. omega arith) (λ m ds l e. rw (read_append 0 ds (digit (m % 10)), e) (omega arith)) n (omega arith))
 
 -- bytes that are digits
 pub data Digits : List ℕ → Type 0 where
@@ -80,15 +63,10 @@ unfolding decimal
 decimal_digits n = digits_all 20 n
 
 -- the first digit of a number above 0 is above 0
-first-digit : (k n : ℕ) → n < 10 ^ k → 0 < n → (0 < length (decimal_of k n)) × (48 < get_or (decimal_of k n) 0 0)
-first-digit zero n h p = absurd (omega arith)
-first-digit (suc k) n h p =
-    either (ltb n 10) (λ q. rw q (omega arith, omega arith))
-    (λ q.
-    let l = ltb-false n 10 q in
-    let f = first-digit k (n / 10) (less k n h) (omega arith) in
-    rw q (omega (arith, length-append (decimal_of k (n / 10)) (digit (n % 10))), rw (get_or-append (decimal_of k (n / 10)) (digit (n % 10)) 0 0 f.0) f.1))
-
 pub decimal-first : (n : ℕ) → n < 10 ^ 20 → 0 < n → 48 < get_or (decimal n) 0 0
-unfolding decimal
-decimal-first n h p = (first-digit 20 n h p).1
+decimal-first n h p =
+    rw (decimal-is n h)
+    (decimal_by_steps_wide (λ m ds. 0 < m → (0 < length ds) × (48 < get_or ds 0 0)) (λ m l q. (omega arith, omega arith))
+    (λ m ds l f q.
+    let g = f (omega arith) in
+    (omega (arith, length-append ds (digit (m % 10))), rw (get_or-append ds (digit (m % 10)) 0 0 g.0) g.1)) n (omega arith) p).1

@@ -10,7 +10,8 @@ use answers::Refusal;
 use exam_rules::Trailer;
 use itoa::Buffer;
 
-// A text in the first bytes of what was lent for it. Each method puts more behind it.
+// A text in the first bytes of what was lent for it. Each method puts more behind it. (`write!` answers
+// a Result, and nothing could say that it never fails; here there is room, so nothing can.)
 #[derive(Drop)]
 struct Text<'a> {
     bytes: &'a mut [u8],

@@ -1,5 +1,6 @@
 -- What a program writes for an answer, refused or done.
-use Rattle.std.proofs.Common.{◌≡◌, ℕ, List, [], length, take, sym, ap, ◌∙◌}
+use Rattle.std.proofs.Common.{◌≡◌, ℕ, List, [], length, take, Result, Ok, Err, OnOk, sym, ap, ◌∙◌}
+use Rattle.std.specs.Result.{is_ok}
 use Rattle.std.proofs.Math.Seq.{take-append_seam}
 use Rattle.answers.specs.Answers.{afterwards, over}
 use Rattle.answers.proofs.Checks.{afterwards-new, afterwards-old}
@@ -27,3 +28,9 @@ module _ {number : ℕ} (done : number ≡ 0) where
       let long = told ∙ afterwards-new _ _ _ done in
       let whole = is ∙ afterwards-new _ _ _ done in
       afterwards-new _ _ _ done ∙ sym (ap (take n) whole ∙ ap (λ m. take m (over bytes lent)) long ∙ take-append_seam bytes _)
+
+-- what holds on Ok holds of the answer whose error is told in other words
+pub on_ok_kept : {A D E P Q : Type 0} (r : Result A E) (m : Result A D) → is_ok m ≡ is_ok r → (P → Q) → OnOk r P → OnOk m Q
+on_ok_kept r (Err d) e f p = tt
+on_ok_kept (Ok x) (Ok y) e f p = f p
+on_ok_kept (Err x) (Ok y) e f p = absurd (cc)

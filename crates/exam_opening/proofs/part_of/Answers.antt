@@ -3,17 +3,8 @@ use native.Mathlib.Omega.{arith}
 use Rattle.answers.specs.declared.Refusal.TheVariants.{NoSuchSlot}
 use Rattle.answers.proofs.Told.{handed_on}
 use Rattle.exam_rules.proofs.Parts.{rules_are}
-use Rattle.exam_opening.proofs.Finding.{directory-ends, part_missing, its-room, its-long, part-ends, part-found}
+use Rattle.exam_opening.proofs.Finding.{part_missing, its-room, its-long, part-ends, part-found}
 use Rattle.exam_opening.proofs.part_of.Goals as goal
-
-pub overflow_sub-directory : goal.overflow_sub-directory
-overflow_sub-directory c = omega (arith, directory-ends _ _ c.requires)
-
-pub slice_bounds-directory-count : goal.slice_bounds-directory-count
-slice_bounds-directory-count c = omega (arith, directory-ends _ _ c.requires)
-
-pub slice_bounds-directory-start : goal.slice_bounds-directory-start
-slice_bounds-directory-start c = omega (arith, directory-ends _ _ c.requires)
 
 pub returns-in_err-index : goal.returns-in_err-index
 returns-in_err-index c =

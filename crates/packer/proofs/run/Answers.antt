@@ -2,15 +2,20 @@
 use Rattle.std.proofs.Common.{arith, length-take-le}
 use Rattle.std.specs.Io.KnownBytes.{Appends}
 use Rattle.streams.proofs.Reading.{of_read}
+use Rattle.streams.proofs.Written.{on_ok_kept}
 use Rattle.packer.proofs.Reading.{output-alike, errors-alike}
 use Rattle.packer.proofs.run.Goals as goal
 
-pub returns-in-Ok-clause-output : goal.returns-in-Ok-clause-output
-returns-in-Ok-clause-output g c =
+pub returns-clause-output : goal.returns-clause-output
+returns-clause-output g c =
     let read = c.in_ok-count.ensures in
-    of_read 32769 _ output-alike _ _ _ (Appends _ _) read.bytes (λ h. read.end (omega (arith, h, length-take-le _ _ read.within, c.read_input.auto.buffer))) c.in-Ok.ensures.output
+    on_ok_kept c.answer_input.result c.map_err.result c.map_err.ensures.variant
+    (of_read 32769 _ output-alike _ _ _ (Appends _ _) read.bytes (λ h. read.end (omega (arith, h, length-take-le _ _ read.within, c.read_input.auto.buffer))))
+    c.answer_input.ensures.output
 
-pub returns-in-Ok-clause-errors : goal.returns-in-Ok-clause-errors
-returns-in-Ok-clause-errors g c =
+pub returns-clause-errors : goal.returns-clause-errors
+returns-clause-errors g c =
     let read = c.in_ok-count.ensures in
-    of_read 32769 _ errors-alike _ _ _ (Appends _ _) read.bytes (λ h. read.end (omega (arith, h, length-take-le _ _ read.within, c.read_input.auto.buffer))) c.in-Ok.ensures.errors
+    on_ok_kept c.answer_input.result c.map_err.result c.map_err.ensures.variant
+    (of_read 32769 _ errors-alike _ _ _ (Appends _ _) read.bytes (λ h. read.end (omega (arith, h, length-take-le _ _ read.within, c.read_input.auto.buffer))))
+    c.answer_input.ensures.errors

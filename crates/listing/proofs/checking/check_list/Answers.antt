@@ -1,7 +1,7 @@
 use mathlib.Core.Path.{refl}
 use native.Mathlib.Omega.{arith}
 use Rattle.answers.proofs.Told.{refuses, handed_on}
-use Rattle.exam_opening.proofs.Finding.{directory-ends}
+use Rattle.exam_opening.proofs.Finding.{directory_ends}
 use Rattle.listing.proofs.Answers.{number-long, number_short, number-refused, opened-stands, trailer_few, directory_stands, number-blocks, number_cramped, number-fine}
 use Rattle.listing.proofs.checking.check_list.Goals as goal
 
@@ -15,10 +15,10 @@ pub returns-in_err-trailer-clause-number : goal.returns-in_err-trailer-clause-nu
 returns-in_err-trailer-clause-number c = rw (handed_on c.from_residual.ensures.1) (number-refused _ _ c.if-length-gt65536.false _ c.get_bytes-exam.ensures _ c.in_err-trailer.ensures)
 
 pub slice_bounds-check_blocks-count : goal.slice_bounds-check_blocks-count
-slice_bounds-check_blocks-count c = omega (arith, directory-ends _ _ (opened-stands _ _ c.get_bytes-exam.ensures _ c.in_ok-trailer.ensures))
+slice_bounds-check_blocks-count c = omega (arith, directory_ends _ _ (opened-stands _ _ c.get_bytes-exam.ensures _ c.in_ok-trailer.ensures))
 
 pub slice_bounds-check_blocks-start : goal.slice_bounds-check_blocks-start
-slice_bounds-check_blocks-start c = omega (arith, directory-ends _ _ (opened-stands _ _ c.get_bytes-exam.ensures _ c.in_ok-trailer.ensures))
+slice_bounds-check_blocks-start c = omega (arith, directory_ends _ _ (opened-stands _ _ c.get_bytes-exam.ensures _ c.in_ok-trailer.ensures))
 
 pub check_blocks-requires : goal.check_blocks-requires
 check_blocks-requires c = directory_stands _ _ (opened-stands _ _ c.get_bytes-exam.ensures _ c.in_ok-trailer.ensures)
