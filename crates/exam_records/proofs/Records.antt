@@ -1,11 +1,10 @@
 -- One record.
-use mathlib.Core.Path.{◌≡◌, sym, ap, ◌∙◌}
+use mathlib.Core.Path.{◌≡◌, sym}
 use mathlib.Core.List.{List}
 use Prim.Native.Nat.{ℕ, ◌+◌, ◌-◌, ◌^◌, ◌≤◌, ◌<◌}
 use native.Mathlib.Omega.{arith}
 use lib.ListN.{length, take, drop}
 use Rattle.words.specs.Bytes.{Bytes}
-use Rattle.answers.proofs.Checks.{afterwards-new, afterwards-old}
 use Rattle.exam_rules.specs.Numbers.{open_in_number}
 use Rattle.exam_rules.specs.Calls.{Lent, lent, Appends, Made}
 use Rattle.exam_rules.specs.declared.Record.{Record}

@@ -1,6 +1,6 @@
 -- What a call's answer tells leaves one answer: no two Results, and no two Progresses, tell the same.
 use Rattle.std.proofs.Common.{◌≡◌, ℕ, Bool, true, false, cond, Option, Some, None, Result, Ok, Err, refl, sym, ap, ◌∙◌, arith}
-use Rattle.answers.specs.Refusals.{refusal_number, number_told, value_told}
+use Rattle.answers.specs.Refusals.{number_told}
 use Rattle.answers.specs.declared.Refusal.{Refusal}
 use Rattle.answers.proofs.Told.{refuses, one_refusal, one_answer}
 use Rattle.exam_rules.specs.Calls.{Opened, Done, Refused, opened_number, opened_told, Located, located_told, Filled, stop_number, filled_told, Salvaged, salvaged_told}
