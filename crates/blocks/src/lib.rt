@@ -1,7 +1,7 @@
 // Packs 64-bit words into blocks, checks blocks and unpacks them.
 #![tactic(auto)]
 
-mod numbers;
+mod checks;
 mod packing;
 mod unpacking;
 

@@ -1,7 +1,7 @@
 // Packing words into a block.
 ghost use Rattle.block_rules.specs.Calls.{packed_told, Packs};
 
-use crate::numbers;
+use crate::checks;
 use answers::Refusal;
 
 // Packs words into a block at the start of out, with both tables cleared first. Answers the block's
@@ -14,6 +14,6 @@ pub fn pack(
 ) -> Result<usize, Refusal>
     ensures { Packs words.now fcm.old dfcm.old out.old (packed_told result) fcm.new dfcm.new out.new }
 {
-    numbers::check_pack(words.len(), fcm.len(), dfcm.len(), out.len())?;
+    checks::check_pack(words.len(), fcm.len(), dfcm.len(), out.len())?;
     Ok(block_packing::pack_all(words, fcm, dfcm, out))
 }

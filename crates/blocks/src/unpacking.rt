@@ -1,7 +1,7 @@
 // Unpacking a block.
 ghost use Rattle.block_rules.specs.Calls.{unpacked_told, Unpacks};
 
-use crate::numbers;
+use crate::checks;
 use answers::Refusal;
 
 // Unpacks a block into words, with both tables cleared first. Answers the word count.
@@ -13,6 +13,6 @@ pub fn unpack(
 ) -> Result<usize, Refusal>
     ensures { Unpacks block.now fcm.old dfcm.old words.old (unpacked_told result) fcm.new dfcm.new words.new }
 {
-    numbers::check_unpack(block, fcm.len(), dfcm.len(), words.len())?;
+    checks::check_unpack(block, fcm.len(), dfcm.len(), words.len())?;
     Ok(block_unpacking::unpack_all(block, fcm, dfcm, words))
 }

@@ -7,14 +7,14 @@ ghost use Rattle.answers.specs.Refusals.{number_told, value_told};
 ghost use Rattle.coil.specs.Calls.{CoilOpens, CoilChecks, CoilPacks, CoilUnpacks, CoilCreates, CoilFinds, CoilFetches, CoilAppends, CoilAppendsAll, CoilReplaces, CoilSalvages};
 
 use answers::{Refusal, number_told};
-use exams::{BlockPlace, Record, SalvagedFile};
+use exams::Record;
 
 // Puts what an answer has into a lent number, 0 where it is a refusal, and answers its number.
 fn tell(answer: Result<usize, Refusal>, value: &mut usize) -> u32
     ensures number { result ≡ number_told answer }
     ensures value { value.new ≡ value_told (λ n. n) answer }
 {
-    *value = answer.unwrap_or(0);
+    *value = answer.unwrap_or_default();
     number_told(&answer)
 }
 
@@ -83,7 +83,7 @@ pub extern "C" fn coil_find(
     ensures { CoilFinds file.now length exam slot result offset.new block_length.new }
 {
     let found = exams::locate(file, length, exam, slot);
-    let place = found.unwrap_or(BlockPlace { offset: 0, size: 0 });
+    let place = found.unwrap_or_default();
     *offset = place.offset;
     *block_length = place.size;
     number_told(&found)
@@ -182,12 +182,7 @@ pub extern "C" fn coil_salvage(
     ensures { CoilSalvages old.now file.old exam t result file.new new_length.new kept.new left_over.new renumbered.new }
 {
     let salvaged = exams::salvage(old, file, exam, t);
-    let made = salvaged.unwrap_or(SalvagedFile {
-        length: 0,
-        kept: 0,
-        left_over: 0,
-        renumbered: false,
-    });
+    let made = salvaged.unwrap_or_default();
     *new_length = made.length;
     *kept = made.kept;
     *left_over = made.left_over;

@@ -15,7 +15,7 @@ pub struct Trailer {
 }
 
 // Where the block of a slot stands in a file, and its size.
-#[derive(Clone, Copy)]
+#[derive(Clone, Copy, Default)]
 pub struct BlockPlace {
     pub offset: usize,
     pub size: usize,
@@ -42,7 +42,7 @@ pub struct Progress {
 
 // What salvage made: the new file's length, how many blocks it kept, how many of the old bytes it left
 // over, and that the slots are renumbered.
-#[derive(Clone, Copy)]
+#[derive(Clone, Copy, Default)]
 pub struct SalvagedFile {
     pub length: usize,
     pub kept: usize,

@@ -25,7 +25,10 @@ use Rattle.exam_rules.specs.Calls.{opened, opened_number}
 use Rattle.exam_rules.proofs.Answered.{open_one_of}
 use Rattle.listing.specs.Text.{ascii, decimal, exam_line, slot_line, listing, most_text}
 use Rattle.listing.specs.Numbers.{blocks_number, list_number}
-use Rattle.listing.specs.Calls.{listed, lists_number, Lists, Listed}
+use Rattle.listing.specs.Calls.{listed, lists_number, Lists, Listed, listed_told}
+use Rattle.answers.specs.declared.Refusal.{Refusal}
+use Rattle.answers.proofs.Told.{one_count}
+use Rattle.std.proofs.Common.{Result}
 use Rattle.listing.proofs.Decimals.{read_on, decimal_read, Digits, decimal_digits, decimal-first}
 use Rattle.listing.proofs.Walks.{each_block, all_blocks}
 use Rattle.listing.proofs.Answers.{opened-whole, takes, takes_keep, listing-within, most_text_lem, lists_number_lem}
@@ -61,6 +64,10 @@ worked-number = (refl, refl)
 -- Of list's answer and of the text, refused or not, the promise admits one value each.
 pub list_one_answer : {f text t₁ t₂ : List ℕ} {r₁ r₂ : Listed} → Lists f text r₁ t₁ → Lists f text r₂ t₂ → (r₁ ≡ r₂) × (t₁ ≡ t₂)
 list_one_answer p q = (p.answer ∙ sym q.answer, p.text_left ∙ sym q.text_left)
+
+-- What is told of its answer leaves one Result.
+pub list_one_result : (r s : Result ℕ Refusal) → listed_told r ≡ listed_told s → r ≡ s
+list_one_result r s e = one_count r s (ap (λ (x : Listed). x.number) e) (ap (λ (x : Listed). x.length) e)
 
 -- ---- every number is one of list's
 

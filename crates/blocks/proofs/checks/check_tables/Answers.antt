@@ -3,7 +3,7 @@ use native.Mathlib.Omega.{arith}
 use borrow.Author.Tests.{eq-eqb, ne_eqb}
 use Rattle.answers.proofs.Checks.{unless-passes, unless_fails, all_pass, fails_here, fails_later}
 use Rattle.block_rules.specs.Numbers.{tables_number}
-use Rattle.blocks.proofs.numbers.check_tables.Goals as goal
+use Rattle.blocks.proofs.checks.check_tables.Goals as goal
 
 pub returns-then-fcm-dfcm : goal.returns-then-fcm-dfcm
 unfolding tables_number

@@ -5,7 +5,7 @@ use Rattle.answers.proofs.Told.{refuses, handed_on}
 use Rattle.block_rules.specs.Block.{count}
 use Rattle.block_rules.specs.Numbers.{unpack_number}
 use Rattle.block_rules.proofs.Accept.{checked-number, checked-count}
-use Rattle.blocks.proofs.numbers.check_unpack.Goals as goal
+use Rattle.blocks.proofs.checks.check_unpack.Goals as goal
 
 pub returns-in_err-check_tables : goal.returns-in_err-check_tables
 unfolding unpack_number

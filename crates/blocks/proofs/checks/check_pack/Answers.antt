@@ -3,7 +3,7 @@ use borrow.Author.Tests.{le-leb, lt-leb}
 use Rattle.answers.proofs.Checks.{unless-passes, unless_fails, all_pass, fails_here, fails_later}
 use Rattle.answers.proofs.Told.{refuses, handed_on}
 use Rattle.block_rules.specs.Numbers.{pack_number}
-use Rattle.blocks.proofs.numbers.check_pack.Goals as goal
+use Rattle.blocks.proofs.checks.check_pack.Goals as goal
 
 pub returns-in_err-check_tables : goal.returns-in_err-check_tables
 unfolding pack_number
