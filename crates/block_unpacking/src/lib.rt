@@ -51,9 +51,10 @@ fn get_word(
 {
     let predicted = named_prediction(predictors, code);
     let word = corrected(block, at, code, predicted);
+    let next = at + block_choice::written(code);
     words[i] = word;
     predictors.learn(word);
-    at + block_choice::written(code)
+    next
 }
 
 // Reads a block's n words. Two words a turn: a byte holds two codes.
