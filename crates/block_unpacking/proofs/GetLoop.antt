@@ -1,6 +1,5 @@
 -- A word of a prediction and a residual; the loop that reads words: what holds at its head, where it starts, after a turn and at its end.
 use Rattle.std.proofs.Common.{◌≡◌, ℕ, ◌+◌, ◌<◌, ◌≤◌, List, [], ◌∷◌, length, get_or, drop, set, sym, refl, ap, ◌∙◌, add-one, arith, length-set, le-ltb, lt-ltb}
-use lib.Bits.{bit_xor, xor_zero_l}
 use lib.Seq.{sets}
 use Rattle.words.specs.Words.{xor}
 use Rattle.words.specs.Bytes.{field}
@@ -26,14 +25,6 @@ named-fcm m c p h e = rw (lt-ltb c 8 h) e
 pub named-dfcm : (m : Memory) (c p : ℕ) → 8 ≤ c → p ≡ dfcm_prediction m → p ≡ named_prediction m c
 unfolding named_prediction
 named-dfcm m c p h e = rw (le-ltb c 8 h) e
-
-pub predicted_whole : (b : List ℕ) (at code k p : ℕ) → k ≡ written code → k ≡ 0 → p ≡ xor (field (written code) at b) p
-unfolding xor
-predicted_whole b at code k p e z = rw (← e, z) (sym (xor_zero_l p))
-
-pub corrected_by : (b : List ℕ) (at code k x p : ℕ) → k ≡ written code → x ≡ field k at b → bit_xor x p ≡ xor (field (written code) at b) p
-unfolding xor
-corrected_by b at code k x p e f = rw (f, e)
 
 -- Finishing from here, over the codes from i on, leaves what the whole run leaves.
 pub record Going (b : List ℕ) (n : ℕ) (p₀ : Predictors) (words₀ : List ℕ) (p : Predictors) (words : List ℕ) (at i : ℕ) : Type 0 where

@@ -4,7 +4,7 @@
 ghost use Rattle.std.specs.Prelude.{◌≡◌, ◌+◌, ◌<◌, ◌≤◌, length};
 ghost use Rattle.words.specs.Words.{xor};
 ghost use Rattle.words.specs.Bytes.{field};
-ghost use Rattle.block_rules.specs.Codes.{written, named_prediction};
+ghost use Rattle.block_rules.specs.Codes.{named_prediction};
 ghost use Rattle.block_rules.specs.Numbers.{t_of};
 ghost use Rattle.block_rules.specs.Inside.{Unpackable, UnpacksAll};
 ghost use Rattle.block_choice.specs.Inside.{held, Able};
@@ -23,13 +23,12 @@ fn named_prediction(predictors: &Predictors, code: u8) -> u64
     predictors.dfcm_prediction()
 }
 
-// The word of a code: its prediction, corrected by the residual whose bytes start at a place. Most
-// words are predicted whole. Eight bytes always end with the residual: two fields precede the codes.
-fn corrected(block: &[u8], at: usize, code: u8, predicted: u64) -> u64
-    requires { (8 ≤ at) × (at + written code ≤ length block.now) }
-    ensures { result ≡ xor (field (written code) at block.now) predicted }
+// A word: its prediction, corrected by the residual whose k bytes start at a place. Most words are
+// predicted whole. Eight bytes always end with the residual: two fields precede the codes.
+fn corrected(block: &[u8], at: usize, k: usize, predicted: u64) -> u64
+    requires { (8 ≤ at) × (at + k ≤ length block.now) × (k ≤ 8) }
+    ensures { result ≡ xor (field k at block.now) predicted }
 {
-    let k = block_choice::written(code);
     if k == 0 {
         return predicted;
     }
@@ -50,11 +49,11 @@ fn get_word(
     ensures { GetsWord block.now at code predictors.old words.old i predictors.new words.new result }
 {
     let predicted = named_prediction(predictors, code);
-    let word = corrected(block, at, code, predicted);
-    let next = at + block_choice::written(code);
+    let k = block_choice::written(code);
+    let word = corrected(block, at, k, predicted);
     words[i] = word;
     predictors.learn(word);
-    next
+    at + k
 }
 
 // Reads a block's n words. Two words a turn: a byte holds two codes.
