@@ -1,5 +1,5 @@
 -- A word of a prediction and a residual; the loop that reads words: what holds at its head, where it starts, after a turn and at its end.
-use Rattle.std.proofs.Common.{◌≡◌, ℕ, ◌+◌, ◌<◌, ◌≤◌, List, [], ◌∷◌, length, get_or, drop, set, sym, refl, ap, ◌∙◌, add-one, arith, length-set, le-ltb, lt-ltb}
+use Rattle.std.proofs.Common.{replicate, ◌≡◌, ℕ, ◌+◌, ◌<◌, ◌≤◌, List, [], ◌∷◌, length, get_or, drop, set, sym, refl, ap, ◌∙◌, add-one, arith, length-set, le-ltb, lt-ltb}
 use lib.Seq.{sets}
 use Rattle.words.specs.Words.{xor}
 use Rattle.words.specs.Bytes.{field}
@@ -14,6 +14,7 @@ use Rattle.block_rules.specs.declared.Coded.{Coded}
 use Rattle.block_choice.specs.Inside.{held, size, Becomes, Starts}
 use Rattle.block_choice.specs.declared.predict.Predictors.{Predictors}
 use Rattle.block_choice.proofs.Learning.{becomes-then}
+use Rattle.block_rules.proofs.Learn.{cleared_of}
 use Rattle.block_rules.proofs.Accept.{whole, counted}
 use Rattle.block_rules.proofs.Get.{rest, rest-next, span_next, rest-none, length-words}
 use Rattle.block_unpacking.specs.Inside.{Decodable, GetsWord, Getting, Gets}
@@ -36,18 +37,19 @@ pub record Going (b : List ℕ) (n : ℕ) (p₀ : Predictors) (words₀ : List �
   pub state : after (size p₀) (held p) (decoded_words (size p₀) (held p) (rest b i at)) ≡ after (size p₀) (cleared (size p₀)) (words_in (size p₀) b)
   pub all : sets words i (decoded_words (size p₀) (held p) (rest b i at)) ≡ sets words₀ 0 (words_in (size p₀) b)
 
-pub going-starts : (b : List ℕ) (n : ℕ) (p : Predictors) (words : List ℕ) → Getting b n p words → Going b n p words p words (residuals_at n) 0
+pub going-starts : (b : List ℕ) (n : ℕ) (f d : MutBor (List ℕ)) (p : Predictors) (words : List ℕ) → Getting b n f.now d.now words → Starts f d p → Going b n p words p words (residuals_at n) 0
 unfolding words_in coded_in
-going-starts b n p words q =
+going-starts b n f d p words q s =
     let w = whole b q.whole in
+    let holds : held p ≡ cleared (size p) = rw (← s.same_size) at s.holds in
     record {
       upto = omega arith;
-      learnt = record { same_fcm = refl; same_dfcm = refl; same_size = refl; able = q.able; holds = refl };
+      learnt = record { same_fcm = refl; same_dfcm = refl; same_size = refl; able = s.able; holds = refl };
       words_long = refl;
       past = omega arith;
       bytes = rw q.count (sym w.adds);
-      state = rw (q.count, q.holds);
-      all = rw (q.count, q.holds);
+      state = rw (q.count, holds);
+      all = rw (q.count, holds);
     }
 
 pub gets_word : (b : List ℕ) (at code : ℕ) (p : Predictors) (words : List ℕ) (i : ℕ) (p' : Predictors) (at' predicted v : ℕ)
@@ -58,7 +60,7 @@ gets_word b at code p words i p' at' predicted v e1 e2 e3 e4 =
     let is : v ≡ xor (field (written code) at b) (named_prediction (held p) code) = rw (← e1) e2 in
     record { word = rw is; learnt = rw is at e3; next = e4 }
 
-module _ (b : List ℕ) (n : ℕ) (p₀ : Predictors) (words₀ : List ℕ) (p : Predictors) (words : List ℕ) (at i : ℕ) (g : Going b n p₀ words₀ p words at i) (q : Getting b n p₀ words₀) where
+module _ (b : List ℕ) (n : ℕ) (p₀ : Predictors) (words₀ : List ℕ) (p : Predictors) (words : List ℕ) (at i : ℕ) (g : Going b n p₀ words₀ p words at i) {f d : List ℕ} (q : Getting b n f d words₀) where
   -- the residual bytes of the next code end within the block
   pub code-within : (code : ℕ) → i < n → code ≡ get_or (halves (drop 8 b)) i 0 → at + written code ≤ length b
   code-within code h e = omega (arith, span_next b n i at code (counted b n q.whole q.count) h e g.bytes)
@@ -99,28 +101,28 @@ module _ (b : List ℕ) (n : ℕ) (p₀ : Predictors) (words₀ : List ℕ) (p :
         all = rw (m, s.word, add-one i) (rw (z, add-one i) at g.all);
       }
 
-  pub going-ends : n ≤ i → Gets b p₀ words₀ p words
-  going-ends h =
+  pub going-ends : n ≤ i → size p₀ ≡ t_of (length f) → (f' d' : List ℕ) → f' ≡ p.fcm.now → d' ≡ p.dfcm.now → Gets (t_of (length f)) b words₀ f' d' words
+  going-ends h size-is f' d' ef ed =
+      let t = t_of (length f) in
       let e : rest b i at ≡ [] = rest-none b n i at (counted b n q.whole q.count) h in
-      record { learnt = rw (rw e at g.state) at g.learnt; words = rw e at g.all }
+      let m : held p ≡ after t (cleared t) (words_in t b) = rw size-is at (rw e at g.state) in
+      record { fcm = ef ∙ ap (λ (x : Memory). x.fcm) m; dfcm = ed ∙ ap (λ (x : Memory). x.dfcm) m; words = rw size-is at (rw e at g.all) }
 
--- ---- around the loop: the predictors before it
+-- ---- around the loop: the tables cleared before it
 
-module _ (b : List ℕ) (n : ℕ) (f d : MutBor (List ℕ)) (f₀ : List ℕ) (others : ℕ) (words : List ℕ) (p : Predictors) (u : Unpackable b (length f₀) others (length words)) (c : n ≡ count b) (l : length f.now ≡ length f₀) (s : Starts f d p) where
-  size-is : size p ≡ t_of (length f₀)
-  size-is = s.same_size ∙ ap t_of l
+pub getting_of : (b : List ℕ) (n : ℕ) (f d words f₁ d₁ : List ℕ) → Unpackable b (length f) (length d) (length words) → n ≡ count b
+    → f₁ ≡ replicate (length f) 0 → d₁ ≡ replicate (length d) 0 → Getting b n f₁ d₁ words
+getting_of b n f d words f₁ d₁ p c e q =
+    record { cleared = cleared_of f d f₁ d₁ p.sized e q; whole = p.whole; count = c; room = rw c p.room }
 
-  pub getting_of : Getting b n p words
-  getting_of = record { able = s.able; holds = rw (← s.same_size) at s.holds; whole = u.whole; count = c; room = rw c u.room }
-
-  pub unpacks-all : (p' : Predictors) (f' d' words' : List ℕ) → Gets b p words p' words' → f' ≡ p'.fcm.now → d' ≡ p'.dfcm.now → UnpacksAll (t_of (length f₀)) b words f' d' words' n
-  unpacks-all p' f' d' words' g ef ed =
-      let t = t_of (length f₀) in
-      let r : length (words_in t b) ≤ length words = omega (arith, length-words t b n (counted b n u.whole c), u.room) in
-      let m : held p' ≡ after t (cleared t) (words_in t b) = rw size-is at g.learnt.holds in
-      record {
-        count = c;
-        fcm = ef ∙ ap (λ (x : Memory). x.fcm) m;
-        dfcm = ed ∙ ap (λ (x : Memory). x.dfcm) m;
-        words = (rw size-is at g.words) ∙ sets_over (words_in t b) words r;
-      }
+pub unpacks-all : (b : List ℕ) (n : ℕ) (f d words f₁ f' d' words' : List ℕ) → Unpackable b (length f) (length d) (length words) → n ≡ count b → length f₁ ≡ length f
+    → Gets (t_of (length f₁)) b words f' d' words' → UnpacksAll (t_of (length f)) b words f' d' words' n
+unpacks-all b n f d words f₁ f' d' words' p c e g =
+    let t = t_of (length f) in
+    let l : length (words_in t b) ≤ length words = omega (arith, length-words t b n (counted b n p.whole c), p.room) in
+    record {
+      count = c;
+      fcm = rw e at g.fcm;
+      dfcm = rw e at g.dfcm;
+      words = (rw e at g.words) ∙ sets_over (words_in t b) words l;
+    }

@@ -6,7 +6,7 @@ use Rattle.block_rules.specs.Codes.{written, decoded_word}
 use Rattle.block_rules.specs.Block.{words_in}
 use Rattle.block_rules.specs.Block as Block
 use Rattle.block_rules.specs.Numbers.{block_number}
-use Rattle.block_rules.specs.Inside.{coded_at}
+use Rattle.block_rules.specs.Inside.{Cleared, coded_at}
 use Rattle.block_choice.specs.Inside.{held, size, Able, Becomes}
 use Rattle.block_choice.specs.declared.predict.Predictors.{Predictors}
 
@@ -22,15 +22,15 @@ pub record GetsWord (b : List ℕ) (at code : ℕ) (p : Predictors) (words : Lis
   pub learnt : Becomes p (learn (size p) (held p) (decoded_word (held p) (coded_at b at code))) p'
   pub next : at' ≡ at + written code
 
--- the words of a block to be read, by predictors as they are before a block, and room for them
-pub record Getting (b : List ℕ) (n : ℕ) (p : Predictors) (words : List ℕ) : Type 0 where
-  pub able : Able p
-  pub holds : held p ≡ cleared (size p)
+-- the words of a block to be read, with cleared tables and room for them
+pub record Getting (b : List ℕ) (n : ℕ) (f d words : List ℕ) : Type 0 where
+  pub cleared : Cleared f d
   pub whole : block_number b ≡ 0
   pub count : n ≡ Block.count b
   pub room : n ≤ length words
 
--- the words of a block are read, and the predictors learnt them
-pub record Gets (b : List ℕ) (p : Predictors) (old : List ℕ) (p' : Predictors) (words' : List ℕ) : Type 0 where
-  pub learnt : Becomes p (after (size p) (cleared (size p)) (words_in (size p) b)) p'
-  pub words : words' ≡ sets old 0 (words_in (size p) b)
+-- the words of a block are read, and the tables are the predictors' after them
+pub record Gets (t : ℕ) (b old f' d' words' : List ℕ) : Type 0 where
+  pub fcm : f' ≡ (after t (cleared t) (words_in t b)).fcm
+  pub dfcm : d' ≡ (after t (cleared t) (words_in t b)).dfcm
+  pub words : words' ≡ sets old 0 (words_in t b)

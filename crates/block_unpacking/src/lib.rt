@@ -56,19 +56,21 @@ fn get_word(
     at + k
 }
 
-// Reads a block's n words. Two words a turn: a byte holds two codes.
-fn get_words(block: &[u8], n: usize, predictors: &mut Predictors, words: &mut [u64])
-    requires { Getting block.now n predictors.old words.old }
-    ensures { Gets block.now predictors.old words.old predictors.new words.new }
+// Reads a block's n words, the tables being cleared. Two words a turn: a byte holds two codes. The
+// predictors are made here, and not by the caller: so the loop keeps what they carry in registers.
+fn get_words(block: &[u8], n: usize, fcm: &mut [u64], dfcm: &mut [u64], words: &mut [u64])
+    requires { Getting block.now n fcm.old dfcm.old words.old }
+    ensures { Gets (t_of (length fcm.old)) block.now words.old fcm.new dfcm.new words.new }
 {
+    let mut predictors = Predictors::new(fcm, dfcm);
     let mut at = 8 + (n + 1) / 2;
     for (j, &byte) in block[8..8 + n / 2].iter().enumerate() {
-        let middle = get_word(block, at, byte / 16, predictors, words, 2 * j);
-        at = get_word(block, middle, byte % 16, predictors, words, 2 * j + 1);
+        let middle = get_word(block, at, byte / 16, &mut predictors, words, 2 * j);
+        at = get_word(block, middle, byte % 16, &mut predictors, words, 2 * j + 1);
     }
     if n % 2 == 1 {
         let code = block_checking::half(block, n - 1);
-        get_word(block, at, code, predictors, words, n - 1);
+        get_word(block, at, code, &mut predictors, words, n - 1);
     }
 }
 
@@ -80,7 +82,6 @@ pub fn unpack_all(block: &[u8], fcm: &mut [u64], dfcm: &mut [u64], words: &mut [
     words::clear(fcm);
     words::clear(dfcm);
     let n = block_checking::count(block);
-    let mut predictors = Predictors::new(fcm, dfcm);
-    get_words(block, n, &mut predictors, words);
+    get_words(block, n, fcm, dfcm, words);
     n
 }

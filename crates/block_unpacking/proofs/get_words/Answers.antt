@@ -1,3 +1,4 @@
+use borrow.Author.Rules.{rules}
 use Rattle.std.proofs.Common.{◌≡◌, ◌+◌, ◌-◌, ◌*◌, ◌<◌, refl, arith}
 use Rattle.block_rules.proofs.Accept.{counted}
 use Rattle.block_rules.proofs.Get.{pairs_end, pairs_high, pairs_low}
@@ -8,7 +9,7 @@ pub slice_bounds-byte-items-end : goal.slice_bounds-byte-items-end
 slice_bounds-byte-items-end c = omega (arith, (counted _ _ c.requires.whole c.requires.count).codes)
 
 pub loop-j-init : goal.loop-j-init
-loop-j-init c = going-starts _ _ _ _ c.requires
+loop-j-init c = going-starts _ _ _ _ _ _ c.requires c.new-predictors.ensures
 
 pub get_word-middle-requires : goal.get_word-middle-requires
 get_word-middle-requires c =
@@ -48,9 +49,10 @@ returns-then-n-eq1 c =
     let u = counted _ _ c.requires.whole c.requires.count in
     let i : c.args.n - 1 ≡ 2 * c.loop-j.j = omega (arith, c.loop-j-test.false, pairs_end _ _ u, c.if-n-eq1.true, c.loop-j.invariant.upto) in
     let g = going_on _ _ _ _ _ _ _ _ c.loop-j.invariant c.requires _ _ _ _ (omega (arith, i)) (rw i at c.half-code.ensures) (rw i at c.get_word.ensures) in
-    going-ends _ _ _ _ _ _ _ _ g c.requires (omega (arith, i))
+    going-ends _ _ _ _ _ _ _ _ g c.requires (omega (arith, i)) c.new-predictors.ensures.same_size _ _ (search rules) (search rules)
 
 pub returns-else-n-eq1 : goal.returns-else-n-eq1
 returns-else-n-eq1 c =
     let u = counted _ _ c.requires.whole c.requires.count in
-    going-ends _ _ _ _ _ _ _ _ c.loop-j.invariant c.requires (omega (arith, c.loop-j-test.false, pairs_end _ _ u, c.if-n-eq1.false))
+    going-ends _ _ _ _ _ _ _ _ c.loop-j.invariant c.requires (omega (arith, c.loop-j-test.false, pairs_end _ _ u, c.if-n-eq1.false)) c.new-predictors.ensures.same_size _ _ (search rules)
+    (search rules)

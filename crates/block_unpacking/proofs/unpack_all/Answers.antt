@@ -1,4 +1,3 @@
-use borrow.Author.Rules.{rules}
 use Rattle.block_rules.proofs.Accept.{whole}
 use Rattle.block_unpacking.proofs.GetLoop.{getting_of, unpacks-all}
 use Rattle.block_unpacking.proofs.unpack_all.Goals as goal
@@ -7,8 +6,7 @@ pub count-n-requires : goal.count-n-requires
 count-n-requires c = (whole _ c.requires.whole).long
 
 pub get_words-requires : goal.get_words-requires
-get_words-requires c = getting_of _ _ _ _ c.args.fcm.now _ _ _ c.requires c.count-n.ensures c.clear.auto.table c.new-predictors.ensures
+get_words-requires c = getting_of _ _ c.args.fcm.now c.args.dfcm.now _ _ _ c.requires c.count-n.ensures c.clear.ensures c.clear-2.ensures
 
 pub returns : goal.returns
-returns c =
-    unpacks-all _ _ _ _ c.args.fcm.now _ _ _ c.requires c.count-n.ensures c.clear.auto.table c.new-predictors.ensures _ _ _ _ c.get_words.ensures (search rules) (search rules)
+returns c = unpacks-all _ _ c.args.fcm.now c.args.dfcm.now _ c.clear.new.table _ _ _ c.requires c.count-n.ensures c.clear.auto.table c.get_words.ensures
