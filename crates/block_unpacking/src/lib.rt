@@ -23,18 +23,6 @@ fn named_prediction(predictors: &Predictors, code: u8) -> u64
     predictors.dfcm_prediction()
 }
 
-// A word: its prediction, corrected by the residual whose k bytes start at a place. Most words are
-// predicted whole. Eight bytes always end with the residual: two fields precede the codes.
-fn corrected(block: &[u8], at: usize, k: usize, predicted: u64) -> u64
-    requires { (8 ≤ at) × (at + k ≤ length block.now) × (k ≤ 8) }
-    ensures { result ≡ xor (field k at block.now) predicted }
-{
-    if k == 0 {
-        return predicted;
-    }
-    words::load_bytes(block, at, k) ^ predicted
-}
-
 // Reads the word of a code, whose residual bytes start at a place, as word i, and both predictors learn
 // it. Answers the place of the next word's.
 fn get_word(
@@ -48,12 +36,16 @@ fn get_word(
     requires { (Decodable block.now at code predictors.old) × (i < length words.old) }
     ensures { GetsWord block.now at code predictors.old words.old i predictors.new words.new result }
 {
-    let predicted = named_prediction(predictors, code);
     let k = block_choice::written(code);
-    let word = corrected(block, at, k, predicted);
+    let mut word = named_prediction(predictors, code);
+    let mut next = at;
+    if k > 0 {
+        word = words::load_bytes(block, at, k) ^ word;
+        next += k;
+    }
     words[i] = word;
     predictors.learn(word);
-    at + k
+    next
 }
 
 // Reads a block's n words, the tables being cleared. Two words a turn: a byte holds two codes. The
