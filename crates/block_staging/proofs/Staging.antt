@@ -92,6 +92,10 @@ pub coded-word : (m : Memory) (v p q : ℕ) → p ≡ fcm_prediction m → q ≡
 unfolding coded_word fcm_residual dfcm_residual
 coded-word m v p q e g = cc
 
+pub word-staged : (p p' : Predictors) (v : ℕ) (stage stage' : List ℕ) (code : ℕ) (x : Coded)
+    → x ≡ coded_word dfcm_chosen (held p) v → Becomes p (learn (size p) (held p) v) p' → StagesChosen stage x stage' code → StagesWord p v stage p' stage' code
+word-staged p p' v stage stage' code x e l s = record { code_is = s.code_is ∙ ap (λ (y : Coded). y.code) e; learnt = l; bytes = rw (← e) s.bytes }
+
 -- a word's code has four bits, and it stages at most eight bytes
 module _ {p p' : Predictors} {v : ℕ} {stage stage' : List ℕ} {code : ℕ} (s : StagesWord p v stage p' stage' code) where
   pub word-code : code ≤ 15

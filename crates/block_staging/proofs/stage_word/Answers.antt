@@ -1,7 +1,7 @@
-use Rattle.block_staging.proofs.Staging.{coded-word}
+use Rattle.block_staging.proofs.Staging.{coded-word, word-staged}
 use Rattle.block_staging.proofs.stage_word.Goals as goal
 
 pub returns : goal.returns
 returns c =
-    let s = rw (coded-word _ c.args.word _ _ c.fcm_prediction-fcm_predicts.ensures c.dfcm_prediction-dfcm_predicts.ensures) at c.stage_chosen.ensures in
-    record { code_is = s.code_is; learnt = c.learn.ensures; bytes = s.bytes }
+    word-staged _ _ _ _ _ _ _ (coded-word _ c.args.word _ _ c.fcm_prediction-fcm_predicts.ensures c.dfcm_prediction-dfcm_predicts.ensures) c.learn.ensures
+    c.stage_chosen.ensures
