@@ -48,8 +48,7 @@ fn get_word(
     next
 }
 
-// Reads a block's n words, the tables being cleared. Two words a turn: a byte holds two codes. The
-// predictors are made here, and not by the caller: so the loop keeps what they carry in registers.
+// Reads a block's n words, the tables being cleared. Two words a turn: a byte holds two codes.
 fn get_words(block: &[u8], n: usize, fcm: &mut [u64], dfcm: &mut [u64], words: &mut [u64])
     requires { Getting block.now n fcm.old dfcm.old words.old }
     ensures { Gets (t_of (length fcm.old)) block.now words.old fcm.new dfcm.new words.new }
