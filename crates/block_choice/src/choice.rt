@@ -22,9 +22,9 @@ pub fn written(code: u8) -> usize
     8 - low - low / 4
 }
 
-// The same by an arm for each of the low bits, so that the compiler makes a table of it. Where nothing
-// waits for it, in packing and in the walk over all codes, that is faster; in unpacking it takes up to
-// twice as long.
+// The same by an arm for each of the low bits, so that the compiler makes a table of it. That is faster
+// where nothing waits for it, in packing and in the walk over all codes; unpacking would take up to two
+// and a half times as long.
 #[tactic(auto, unfolding(block_rules::specs::Codes::written))]
 pub fn written_by_table(code: u8) -> usize
     ensures { result ≡ written code }

@@ -5,4 +5,4 @@ mod choice;
 mod predict;
 
 pub use choice::{chosen, written, written_by_table};
-pub use predict::learn;
+pub use predict::Predictors;

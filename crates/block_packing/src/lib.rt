@@ -5,66 +5,48 @@ ghost use Rattle.std.specs.Prelude.{◌≡◌, ◌+◌, ◌/◌, ◌≤◌, [], 
 ghost use lib.ListN.{length, take};
 ghost use Rattle.std.proofs.lemmas.List.Edits.{sets};
 ghost use Rattle.words.specs.Bytes.{low_bytes};
-ghost use Rattle.block_rules.specs.Predictors.{cleared};
 ghost use Rattle.block_rules.specs.Block.{residuals_at};
 ghost use Rattle.block_rules.specs.Numbers.{t_of};
-ghost use Rattle.block_rules.specs.Inside.{memory, Packable, PacksAll};
+ghost use Rattle.block_rules.specs.Inside.{Packable, PacksAll};
 ghost use Rattle.block_packing.specs.Inside.{unpaired, Resting, Putting, Puts};
 
-use block_rules::Carry;
+use block_choice::Predictors;
 use block_staging::Stage;
 
 // Puts what the whole pairs leave: what is staged, whose place is at, and the last word where the count
 // is odd. Answers where the residual bytes end.
 fn put_rest(
     words: &[u64],
-    fcm: &mut [u64],
-    dfcm: &mut [u64],
+    predictors: &mut Predictors,
     out: &mut [u8],
     stage: &mut Stage,
-    carry: Carry,
     at: usize,
 ) -> usize
-    requires { Resting words.now fcm.old dfcm.old out.old stage.old carry at }
-    ensures { Puts (t_of (length fcm.old)) (memory fcm.old dfcm.old carry) (unpaired words.now) (8 + length words.now / 2) at stage.old out.old fcm.new dfcm.new out.new result }
+    requires { Resting words.now predictors.old out.old stage.old at }
+    ensures { Puts predictors.old (unpaired words.now) (8 + length words.now / 2) at stage.old out.old predictors.new out.new result }
 {
     let count = words.len();
     if count % 2 == 0 {
         return stage.flush(out, at);
     }
-    let step = block_staging::stage_word(fcm, dfcm, stage, carry, words[count - 1]);
-    out[8 + count / 2] = step.codes * 16 + 7;
+    let code = block_staging::stage_word(predictors, stage, words[count - 1]);
+    out[8 + count / 2] = code * 16 + 7;
     stage.flush(out, at)
 }
 
-// Puts the codes and the residual bytes of all words, two words a turn, the tables being cleared.
-// Answers where the residual bytes end. The stage is there so that a word's bytes take one store, and
-// nothing beyond the block is touched.
-fn put_words(
-    words: &[u64],
-    fcm: &mut [u64],
-    dfcm: &mut [u64],
-    out: &mut [u8],
-    stage: &mut Stage,
-) -> usize
-    requires { Putting words.now fcm.old dfcm.old out.old stage.old }
-    ensures { Puts (t_of (length fcm.old)) (cleared (t_of (length fcm.old))) words.now 8 (residuals_at (length words.now)) [] out.old fcm.new dfcm.new out.new result }
+// Puts the codes and the residual bytes of all words, two words a turn. Answers where the residual bytes
+// end. The stage is there so that a word's bytes take one store, and nothing beyond the block is touched.
+fn put_words(words: &[u64], predictors: &mut Predictors, out: &mut [u8], stage: &mut Stage) -> usize
+    requires { Putting words.now predictors.old out.old stage.old }
+    ensures { Puts predictors.old words.now 8 (residuals_at (length words.now)) [] out.old predictors.new out.new result }
 {
     let n = words.len();
     let mut at = 8 + (n + 1) / 2;
-    let mut carry = Carry {
-        fcm: 0,
-        dfcm: 0,
-        last: 0,
-    };
     for k in 0..n / 2 {
-        let pair = block_staging::stage_pair(fcm, dfcm, stage, carry, words, 2 * k);
-        out[8 + k] = pair.codes;
+        out[8 + k] = block_staging::stage_pair(predictors, stage, words, 2 * k);
         at = stage.make_room(out, at);
-        let next = pair.carry;
-        carry = next;
     }
-    put_rest(words, fcm, dfcm, out, stage, carry, at)
+    put_rest(words, predictors, out, stage, at)
 }
 
 // Puts the two fields at the head of a block: the word count and the length of the whole block.
@@ -85,7 +67,8 @@ pub fn pack_all(words: &[u64], fcm: &mut [u64], dfcm: &mut [u64], out: &mut [u8]
     words::clear(dfcm);
     let mut bytes = [0u8; 480];
     let mut stage = Stage::new(&mut bytes);
-    let end = put_words(words, fcm, dfcm, out, &mut stage);
+    let mut predictors = Predictors::new(fcm, dfcm);
+    let end = put_words(words, &mut predictors, out, &mut stage);
     put_head(out, words.len(), end);
     end
 }

@@ -1,5 +1,5 @@
 -- Tables of one size stay so while they learn, and hashes within them.
-use mathlib.Core.Path.{◌≡◌, refl, sym, ap, ◌∙◌, subst}
+use mathlib.Core.Path.{◌≡◌, sym, ap, ◌∙◌, subst}
 use mathlib.Core.List.{List, [], ◌∷◌}
 use Prim.Native.Nat.{ℕ, ◌^◌, ◌<◌}
 use native.Mathlib.Omega.{arith}
@@ -24,10 +24,6 @@ pub held-cleared : (t : ℕ) → Held t (cleared t)
 unfolding cleared
 held-cleared t = record { fcm = length-replicate _ _; dfcm = length-replicate _ _; fcm_hash = pow_pos t; dfcm_hash = pow_pos t }
 
-pub learn-long : (t : ℕ) (m : Memory) (v : ℕ) → (length (learn t m v).fcm ≡ length m.fcm) × (length (learn t m v).dfcm ≡ length m.dfcm)
-unfolding learn
-learn-long t m v = (length-set m.fcm m.fcm_hash v, length-set m.dfcm m.dfcm_hash _)
-
 pub held-learn : (t : ℕ) (m : Memory) (v : ℕ) → Held t m → Held t (learn t m v)
 unfolding learn next_fcm_hash next_dfcm_hash low_bits
 held-learn t m v h = record { fcm = simp length-set h.fcm; dfcm = simp length-set h.dfcm; fcm_hash = mod-lt _ (pow_pos t); dfcm_hash = mod-lt _ (pow_pos t) }
@@ -46,14 +42,6 @@ ready-learn f d f' d' c c' v r e =
     let lf : length f' ≡ length f = h.fcm ∙ sym p in
     let ld : length d' ≡ length d = h.dfcm ∙ sym p ∙ sym s.same in
     record { sized = rw (lf, ld) s; fcm = omega (arith, h.fcm, h.fcm_hash); dfcm = omega (arith, h.fcm, h.dfcm_hash) }
-
--- the same after two words
-pub two_ready : (f d f' d' : List ℕ) (c c' : Carry) (v w : ℕ) → Ready f d c → memory f' d' c' ≡ learn (t_of (length f)) (learn (t_of (length f)) (memory f d c) v) w → Ready f' d' c'
-two_ready f d f' d' c c' v w r e =
-    let m = learn (t_of (length f)) (memory f d c) v in
-    let between : Carry = record { fcm = m.fcm_hash; dfcm = m.dfcm_hash; last = m.last } in
-    let l : length m.fcm ≡ length f = (learn-long (t_of (length f)) (memory f d c) v).0 in
-    ready-learn m.fcm m.dfcm f' d' between c' w (ready-learn f d m.fcm m.dfcm c between v r refl) (rw l e)
 
 -- the carry before the first word
 abbrev pub start : Carry

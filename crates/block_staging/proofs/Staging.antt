@@ -1,21 +1,21 @@
 -- Staging residual bytes: eight stored at a time, of which a code's own number counts.
 use Rattle.std.proofs.Common.{◌≡◌, ℕ, zero, suc, ◌+◌, ◌*◌, ◌/◌, ◌%◌, ◌^◌, ◌<◌, ◌≤◌, List, ◌∷◌, ◌++◌, length, get_or, take, drop, sym, refl, ap, ◌∙◌, append_assoc, append-nil, arith, length-append, length-take-le}
 use lib.Seq.{sets, sets-eq, take-append-add, take-append-le}
-use Rattle.words.specs.Words.{add64, xor}
+use Rattle.words.specs.Words.{xor}
 use Rattle.words.specs.Bytes.{low_bytes}
 use Rattle.words.proofs.Zeros.{zeros_of_zero}
 use Rattle.words.proofs.Bytes.{length_low}
 use Rattle.block_rules.specs.Predictors.{Memory, learn, fcm_prediction, dfcm_prediction}
 use Rattle.block_rules.specs.Codes.{dfcm_chosen, low_three, written, coded_by, chosen, coded_word, residual_bytes, fcm_residual, dfcm_residual}
-use Rattle.block_rules.specs.Inside.{memory}
 use Rattle.block_rules.specs.declared.Coded.{Coded}
-use Rattle.block_rules.specs.declared.Carry.{Carry}
 use Rattle.block_rules.proofs.Codes.{written_small}
 use Rattle.block_rules.proofs.Choices.{chosen-fcm, chosen-dfcm, coded-small}
 use Rattle.block_rules.proofs.Choices.{zero_by_fcm, zero_by_dfcm}
 use Rattle.block_rules.proofs.Lengths.{length_residual}
 use Rattle.block_staging.specs.Inside.{StagesChosen, StagesWord, StagesPair}
-use Rattle.block_staging.specs.declared.Step.{Step}
+use Rattle.block_choice.specs.Inside.{held, size, Becomes}
+use Rattle.block_choice.specs.declared.predict.Predictors.{Predictors}
+use Rattle.block_choice.proofs.Learning.{becomes-then}
 
 -- ---- eight bytes
 
@@ -62,33 +62,32 @@ dfcm_zero stage f d h n e =
 
 -- ---- a word, and two
 
--- the word's residuals are those of the predictions that the tables gave
-pub coded-word : (f d : List ℕ) (c : Carry) (v p q : ℕ) → p ≡ get_or f c.fcm 0 → q ≡ add64 (get_or d c.dfcm 0) c.last
-    → chosen dfcm_chosen (xor v p) (xor v q) ≡ coded_word dfcm_chosen (memory f d c) v
-unfolding coded_word fcm_residual dfcm_residual fcm_prediction dfcm_prediction
-coded-word f d c v p q e g = cc
+-- the word's residuals are those of the two predictions
+pub coded-word : (m : Memory) (v p q : ℕ) → p ≡ fcm_prediction m → q ≡ dfcm_prediction m → chosen dfcm_chosen (xor v p) (xor v q) ≡ coded_word dfcm_chosen m v
+unfolding coded_word fcm_residual dfcm_residual
+coded-word m v p q e g = cc
 
-pub word-staged : (t : ℕ) (m : Memory) (v : ℕ) (stage f d stage' : List ℕ) (c : Carry) (code : ℕ) (x : Coded)
-    → x ≡ coded_word dfcm_chosen m v → memory f d c ≡ learn t m v → StagesChosen stage x stage' code
-    → StagesWord t m v stage f d stage' (record { carry = c; codes = code })
-word-staged t m v stage f d stage' c code x e l s =
-    record { code_is = s.code_is ∙ ap (λ (y : Coded). y.code) e; learnt = l; bytes = rw (← e) s.bytes }
+pub word-staged : (p p' : Predictors) (v : ℕ) (stage stage' : List ℕ) (code : ℕ) (x : Coded)
+    → x ≡ coded_word dfcm_chosen (held p) v → Becomes p (learn (size p) (held p) v) p' → StagesChosen stage x stage' code → StagesWord p v stage p' stage' code
+word-staged p p' v stage stage' code x e l s = record { code_is = s.code_is ∙ ap (λ (y : Coded). y.code) e; learnt = l; bytes = rw (← e) s.bytes }
 
 -- a word's code has four bits, and it stages at most eight bytes
-module _ {t : ℕ} {m : Memory} {v : ℕ} {stage f d stage' : List ℕ} {r : Step} (s : StagesWord t m v stage f d stage' r) where
-  pub word-code : r.codes ≤ 15
-  word-code = rw s.code_is (coded-small dfcm_chosen m v)
+module _ {p p' : Predictors} {v : ℕ} {stage stage' : List ℕ} {code : ℕ} (s : StagesWord p v stage p' stage' code) where
+  pub word-code : code ≤ 15
+  word-code = rw s.code_is (coded-small dfcm_chosen (held p) v)
 
   pub word_room : length stage' ≤ length stage + 8
   word_room =
-      let x = coded_word dfcm_chosen m v in
+      let x = coded_word dfcm_chosen (held p) v in
       rw s.bytes (omega (arith, length-append stage (residual_bytes x), length_residual x, written_small x.code))
 
-pub pair_staged : (t : ℕ) (m : Memory) (v w : ℕ) (stage stage₁ stage' f₁ d₁ f d : List ℕ) (r s : Step)
-    → StagesWord t m v stage f₁ d₁ stage₁ r → StagesWord t (memory f₁ d₁ r.carry) w stage₁ f d stage' s
-    → StagesPair t m v w stage f d stage' (record { carry = s.carry; codes = r.codes * 16 + s.codes })
-pair_staged t m v w stage stage₁ stage' f₁ d₁ f d r s p q =
-    let x = coded_word dfcm_chosen m v in
-    let y = coded_word dfcm_chosen (learn t m v) w in
-    let q' : StagesWord t (learn t m v) w stage₁ f d stage' s = rw p.learnt at q in
-    record { codes_are = rw (p.code_is, q'.code_is); learnt = q'.learnt; bytes = q'.bytes ∙ rw p.bytes (append_assoc stage (residual_bytes x) (residual_bytes y)) }
+pub pair_staged : (p p₁ p' : Predictors) (v w : ℕ) (stage stage₁ stage' : List ℕ) (one two : ℕ)
+    → StagesWord p v stage p₁ stage₁ one → StagesWord p₁ w stage₁ p' stage' two → StagesPair p v w stage p' stage' (one * 16 + two)
+pair_staged p p₁ p' v w stage stage₁ stage' one two a b =
+    let m = learn (size p) (held p) v in
+    let x = coded_word dfcm_chosen (held p) v in
+    let y = coded_word dfcm_chosen m w in
+    let code : two ≡ y.code = rw a.learnt.holds at b.code_is in
+    let bytes : stage' ≡ stage₁ ++ residual_bytes y = rw a.learnt.holds at b.bytes in
+    let learnt : Becomes p₁ (learn (size p) m w) p' = rw (a.learnt.holds, a.learnt.same_size) at b.learnt in
+    record { codes_are = rw (a.code_is, code); learnt = becomes-then p p₁ p' m _ a.learnt learnt; bytes = bytes ∙ rw a.bytes (append_assoc stage (residual_bytes x) (residual_bytes y)) }

@@ -7,15 +7,16 @@ ghost use Rattle.std.proofs.lemmas.List.Edits.{sets};
 ghost use Rattle.words.specs.Words.{xor};
 ghost use Rattle.words.specs.Bytes.{low_bytes};
 ghost use Rattle.block_rules.specs.Codes.{dfcm_chosen, chosen, residual_bytes};
-ghost use Rattle.block_rules.specs.Numbers.{t_of};
-ghost use Rattle.block_rules.specs.Inside.{memory, Ready};
+ghost use Rattle.block_choice.specs.Inside.{Able};
 ghost use Rattle.block_staging.specs.Inside.{stage_length, StagesChosen, StagesWord, StagesPair, MakesRoom};
 
-use block_rules::{Carry, Coded};
+use block_choice::Predictors;
+use block_rules::Coded;
 use std::marker::Model;
 
-// Residual bytes that wait to be copied to the output. It is seen as the list of them. The buffer is
-// lent and not owned: so their number stays in a register, which packing gains up to a third by.
+// Residual bytes that wait to be copied to the output, seen as the list of them. The buffer is lent: beside
+// a buffer of its own their number would go through memory with each word, and packing would take a tenth
+// to a third longer.
 #[derive(Drop)]
 pub struct Stage<'a> {
     bytes: &'a mut [u8],
@@ -73,13 +74,6 @@ impl<'a> Stage<'a> {
     }
 }
 
-// What the predictors carry on after a word or two, and the code, or both codes in one byte.
-#[derive(Clone, Copy)]
-pub struct Step {
-    pub carry: Carry,
-    pub codes: u8,
-}
-
 // Stores all eight bytes of a residual in the stage, low byte first.
 #[tactic(auto, using(words::proofs::Stores::stores, words::proofs::Bytes::eight_written))]
 fn store_eight(stage: &mut [u8], at: usize, residual: u64)
@@ -107,48 +101,24 @@ fn stage_chosen(stage: &mut Stage, word: u64, fcm_predicts: u64, dfcm_predicts: 
     coded.code
 }
 
-// Codes one word, stages its residual bytes, and both predictors learn it.
-pub fn stage_word(
-    fcm: &mut [u64],
-    dfcm: &mut [u64],
-    stage: &mut Stage,
-    carry: Carry,
-    word: u64,
-) -> Step
-    requires { (length stage.old + 8 ≤ stage_length) × Ready fcm.old dfcm.old carry }
-    ensures { StagesWord (t_of (length fcm.old)) (memory fcm.old dfcm.old carry) word stage.old fcm.new dfcm.new stage.new result }
+// Codes one word, stages its residual bytes, and both predictors learn it. Answers its code.
+pub fn stage_word(predictors: &mut Predictors, stage: &mut Stage, word: u64) -> u8
+    requires { (length stage.old + 8 ≤ stage_length) × Able predictors.old }
+    ensures { StagesWord predictors.old word stage.old predictors.new stage.new result }
 {
-    let fcm_hash = carry.fcm;
-    let dfcm_hash = carry.dfcm;
-    let fcm_predicts = fcm[fcm_hash];
-    let dfcm_predicts = std::num::wrapping_add_u64(dfcm[dfcm_hash], carry.last);
-    let next = block_choice::learn(fcm, dfcm, carry, word);
-    let code = stage_chosen(stage, word, fcm_predicts, dfcm_predicts);
-    Step {
-        carry: next,
-        codes: code,
-    }
+    let fcm_predicts = predictors.fcm_prediction();
+    let dfcm_predicts = predictors.dfcm_prediction();
+    predictors.learn(word);
+    stage_chosen(stage, word, fcm_predicts, dfcm_predicts)
 }
 
-// The same for two words, of which the first is words[at]. The second is read when its turn has come:
-// no register is free to keep it.
-pub fn stage_pair(
-    fcm: &mut [u64],
-    dfcm: &mut [u64],
-    stage: &mut Stage,
-    carry: Carry,
-    words: &[u64],
-    at: usize,
-) -> Step
-    requires { (length stage.old + 16 ≤ stage_length) × Ready fcm.old dfcm.old carry × (at + 2 ≤ length words.now) }
-    ensures { StagesPair (t_of (length fcm.old)) (memory fcm.old dfcm.old carry) (slice_index words.now at) (slice_index words.now (at + 1)) stage.old fcm.new dfcm.new stage.new result }
+// The same for two words, of which the first is words[at]. Answers both codes in one byte. The second is
+// read when its turn has come: no register is free to keep it.
+pub fn stage_pair(predictors: &mut Predictors, stage: &mut Stage, words: &[u64], at: usize) -> u8
+    requires { (length stage.old + 16 ≤ stage_length) × Able predictors.old × (at + 2 ≤ length words.now) }
+    ensures { StagesPair predictors.old (slice_index words.now at) (slice_index words.now (at + 1)) stage.old predictors.new stage.new result }
 {
-    let one = stage_word(fcm, dfcm, stage, carry, words[at]);
-    let between = one.carry;
-    let two = stage_word(fcm, dfcm, stage, between, words[at + 1]);
-    let next = two.carry;
-    Step {
-        carry: next,
-        codes: one.codes * 16 + two.codes,
-    }
+    let one = stage_word(predictors, stage, words[at]);
+    let two = stage_word(predictors, stage, words[at + 1]);
+    one * 16 + two
 }

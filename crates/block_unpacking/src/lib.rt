@@ -4,70 +4,48 @@
 ghost use Rattle.std.specs.Prelude.{◌≡◌, ◌+◌, ◌<◌, ◌≤◌, length};
 ghost use Rattle.words.specs.Words.{xor};
 ghost use Rattle.words.specs.Bytes.{field};
-ghost use Rattle.block_rules.specs.Codes.{written, named_prediction};
+ghost use Rattle.block_rules.specs.Codes.{named_prediction};
 ghost use Rattle.block_rules.specs.Numbers.{t_of};
-ghost use Rattle.block_rules.specs.Inside.{memory, Ready, Unpackable, UnpacksAll};
+ghost use Rattle.block_rules.specs.Inside.{Unpackable, UnpacksAll};
+ghost use Rattle.block_choice.specs.Inside.{held, Able};
 ghost use Rattle.block_unpacking.specs.Inside.{Decodable, GetsWord, Getting, Gets};
 
-use block_rules::Carry;
-
-// Where a word is read: its residual bytes start there, and this is what the predictors carry.
-#[derive(Clone, Copy)]
-pub struct Place {
-    pub at: usize,
-    pub carry: Carry,
-}
+use block_choice::Predictors;
 
 // The prediction that a code names.
-fn named_prediction(fcm: &[u64], dfcm: &[u64], carry: Carry, code: u8) -> u64
-    requires { Ready fcm.now dfcm.now carry }
-    ensures { result ≡ named_prediction (memory fcm.now dfcm.now carry) code }
+fn named_prediction(predictors: &Predictors, code: u8) -> u64
+    requires { Able predictors.now }
+    ensures { result ≡ named_prediction (held predictors.now) code }
 {
-    let fcm_hash = carry.fcm;
-    let dfcm_hash = carry.dfcm;
     if code < 8 {
-        return fcm[fcm_hash];
+        return predictors.fcm_prediction();
     }
-    std::num::wrapping_add_u64(dfcm[dfcm_hash], carry.last)
+    predictors.dfcm_prediction()
 }
 
-// The word of a code: its prediction, corrected by the residual whose bytes start at a place. Most
-// words are predicted whole. Eight bytes always end with the residual: two fields precede the codes.
-fn corrected(block: &[u8], at: usize, code: u8, predicted: u64) -> u64
-    requires { (8 ≤ at) × (at + written code ≤ length block.now) }
-    ensures { result ≡ xor (field (written code) at block.now) predicted }
-{
-    let k = block_choice::written(code);
-    if k == 0 {
-        return predicted;
-    }
-    words::load_bytes(block, at, k) ^ predicted
-}
-
-// Reads the word of a code, at a place, as word i, and both predictors learn it. Answers the place of
-// the next word.
+// Reads the word of a code, whose residual bytes start at a place, as word i, and both predictors learn
+// it. Answers the place of the next word's.
 fn get_word(
     block: &[u8],
-    place: Place,
+    at: usize,
     code: u8,
-    fcm: &mut [u64],
-    dfcm: &mut [u64],
+    predictors: &mut Predictors,
     words: &mut [u64],
     i: usize,
-) -> Place
-    requires { (Decodable block.now place.at code fcm.old dfcm.old place.carry) × (i < length words.old) }
-    ensures { GetsWord (t_of (length fcm.old)) (memory fcm.old dfcm.old place.carry) block.now place.at code words.old i fcm.new dfcm.new words.new result }
+) -> usize
+    requires { (Decodable block.now at code predictors.old) × (i < length words.old) }
+    ensures { GetsWord block.now at code predictors.old words.old i predictors.new words.new result }
 {
-    let at = place.at;
-    let carry = place.carry;
-    let predicted = named_prediction(fcm, dfcm, carry, code);
-    let word = corrected(block, at, code, predicted);
-    words[i] = word;
-    let next = block_choice::learn(fcm, dfcm, carry, word);
-    Place {
-        at: at + block_choice::written(code),
-        carry: next,
+    let k = block_choice::written(code);
+    let mut word = named_prediction(predictors, code);
+    let mut next = at;
+    if k > 0 {
+        word = words::load_bytes(block, at, k) ^ word;
+        next += k;
     }
+    words[i] = word;
+    predictors.learn(word);
+    next
 }
 
 // Reads a block's n words, the tables being cleared. Two words a turn: a byte holds two codes.
@@ -75,28 +53,15 @@ fn get_words(block: &[u8], n: usize, fcm: &mut [u64], dfcm: &mut [u64], words: &
     requires { Getting block.now n fcm.old dfcm.old words.old }
     ensures { Gets (t_of (length fcm.old)) block.now words.old fcm.new dfcm.new words.new }
 {
-    let mut place = Place {
-        at: 8 + (n + 1) / 2,
-        carry: Carry {
-            fcm: 0,
-            dfcm: 0,
-            last: 0,
-        },
-    };
+    let mut predictors = Predictors::new(fcm, dfcm);
+    let mut at = 8 + (n + 1) / 2;
     for (j, &byte) in block[8..8 + n / 2].iter().enumerate() {
-        let middle = get_word(block, place, byte / 16, fcm, dfcm, words, 2 * j);
-        place = get_word(block, middle, byte % 16, fcm, dfcm, words, 2 * j + 1);
+        let middle = get_word(block, at, byte / 16, &mut predictors, words, 2 * j);
+        at = get_word(block, middle, byte % 16, &mut predictors, words, 2 * j + 1);
     }
     if n % 2 == 1 {
-        get_word(
-            block,
-            place,
-            block_checking::half(block, n - 1),
-            fcm,
-            dfcm,
-            words,
-            n - 1,
-        );
+        let code = block_checking::half(block, n - 1);
+        get_word(block, at, code, &mut predictors, words, n - 1);
     }
 }
 
