@@ -36,6 +36,7 @@ fn put_rest(
 
 // Puts the codes and the residual bytes of all words, two words a turn. Answers where the residual bytes
 // end. The stage is there so that a word's bytes take one store, and nothing beyond the block is touched.
+// (By number and not by a zip: `make_room` takes all of the output.)
 fn put_words(words: &[u64], predictors: &mut Predictors, out: &mut [u8], stage: &mut Stage) -> usize
     requires { Putting words.now predictors.old out.old stage.old }
     ensures { Puts predictors.old words.now 8 (residuals_at (length words.now)) [] out.old predictors.new out.new result }

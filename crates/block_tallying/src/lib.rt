@@ -66,7 +66,7 @@ pub fn tally(block: &[u8]) -> Tally
     }
 }
 
-// The tally of a refusal.
+// The tally of a refusal: its numbers are 0, for a call that tells them beside one.
 pub fn no_tally() -> Tally
     ensures { result ≡ no_tally }
 {

@@ -21,7 +21,8 @@ fn check_input(length: usize) -> Result<(), Refusal>
     Ok(())
 }
 
-// Puts the words in the input at the start of `into`.
+// Puts the words in the input at the start of `into`. (By place: of what a zip over `iter_mut` writes,
+// nothing is known afterwards.)
 fn put_words(input: &[u8], into: &mut [u64])
     requires { WholeWords input.now into.old }
     ensures { into.new ≡ sets into.old 0 (words_of input.now) }

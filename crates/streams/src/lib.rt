@@ -32,7 +32,8 @@ impl fmt::Display for Failure {
 impl Error for Failure {}
 
 // Reads into the start of a buffer until the input ends or the buffer is full. Answers how many bytes
-// came. Where a read fails nothing is counted: no part may be taken for the whole.
+// came. Where a read fails nothing is counted: no part may be taken for the whole. (A `while`, since a
+// read brings any number of bytes; `read_to_end` would ask for memory and say little after a failure.)
 pub fn read_input<R: Read>(reader: &mut R, buffer: &mut [u8]) -> Result<usize, Failure>
     ensures within { IfOk result (λ count. count ≤ length buffer.new) }
     ensures bytes { IfOk result (λ count.
@@ -54,7 +55,7 @@ pub fn read_input<R: Read>(reader: &mut R, buffer: &mut [u8]) -> Result<usize, F
     Ok(count)
 }
 
-// Says a refusal's number.
+// Says a refusal's number. (A number, so that a program may tell one that the library does not have.)
 pub fn say_refused<W: Write>(writer: &mut W, number: u32) -> io::Result<()>
     ensures { OnOk result (Appends (W.contents writer.old) (W.contents writer.new) (refusal number)) }
 {

@@ -31,7 +31,7 @@ pub fn clear(table: &mut [u64])
     }
 }
 
-// Writes the k low bytes of x at a place, low byte first.
+// Writes the k low bytes of x at a place, low byte first. (Not by `to_le_bytes`, since k may be above 8.)
 #[tactic(auto, using(crate::proofs::Stores::stores))]
 pub fn put_bytes(out: &mut [u8], at: usize, k: usize, x: u64)
     requires { at + k ≤ length out.old }
@@ -44,7 +44,8 @@ pub fn put_bytes(out: &mut [u8], at: usize, k: usize, x: u64)
     }
 }
 
-// Reads the number in a field of k bytes at a place.
+// Reads the number in a field of k bytes at a place. (With k known, as in each call, the copy is one
+// load, and no call of C's library comes of it.)
 #[tactic(auto, using(crate::proofs::Bytes::read_padded))]
 pub fn get_bytes(src: &[u8], at: usize, k: usize) -> u64
     requires { (at + k ≤ length src.now) × (k ≤ 8) }
@@ -55,7 +56,7 @@ pub fn get_bytes(src: &[u8], at: usize, k: usize) -> u64
     u64::from_le_bytes(bytes)
 }
 
-// Reads two bytes.
+// Reads two bytes. (Not one function with `load_eight`: each number type has a reading of its own.)
 pub fn load_two(src: &[u8], at: usize) -> u64
     requires { at + 2 ≤ length src.now }
     ensures { (result ≡ field 2 at src.now) × (result < 65536) }
@@ -89,7 +90,7 @@ pub fn same(a: &[u8], b: &[u8]) -> bool
 }
 
 // Copies the bytes of src to a place of out. (`copy_from_slice` would have the compiler call C's
-// `memmove`.)
+// `memmove`, and of what a zip over `iter_mut` writes nothing is known afterwards.)
 #[tactic(auto, using(crate::proofs::Stores::stores))]
 pub fn copy_in(out: &mut [u8], at: usize, src: &[u8])
     requires { at + length src.now ≤ length out.old }
