@@ -16,11 +16,12 @@ use Rattle.block_rules.specs.Inside.{PacksAll}
 use Rattle.block_rules.specs.declared.Coded.{Coded}
 use Rattle.block_rules.proofs.Codes.{written_small}
 use Rattle.block_rules.proofs.Lengths.{length_residual, length_residuals, length-code_bytes, length-codes, length-coded, length-block}
+use Rattle.block_staging.specs.Waiting.{Waiting, whole}
 use Rattle.block_staging.specs.Inside.{StagesPair, MakesRoom}
 use Rattle.block_choice.specs.Inside.{held, size, Becomes, Starts}
 use Rattle.block_choice.specs.declared.predict.Predictors.{Predictors}
 use Rattle.block_choice.proofs.Learning.{becomes-then}
-use Rattle.block_packing.specs.Inside.{Putting, Puts}
+use Rattle.block_packing.specs.Inside.{stage_length, Putting, Puts}
 use Rattle.block_packing.proofs.Put.{put_block}
 
 -- the coded words from word i on
@@ -28,18 +29,19 @@ abbrev pub left : ℕ → List ℕ → Memory → ℕ → List Coded
 left t ws m i = coded_words dfcm_chosen t m (drop i ws)
 
 -- Finishing from here, over the words from 2k on, leaves what the whole run leaves. What is staged comes before what is left.
-pub record Going (ws : List ℕ) (p₀ : Predictors) (out₀ : List ℕ) (p : Predictors) (out stage : List ℕ) (at k : ℕ) : Type 0 where
+pub record Going (ws : List ℕ) (p₀ : Predictors) (out₀ : List ℕ) (p : Predictors) (out : List ℕ) (stage : Waiting) (at k : ℕ) : Type 0 where
   pub upto : 2 * k ≤ length ws
   pub learnt : Becomes p₀ (held p) p
   pub out_long : length out ≡ length out₀
+  pub stage_whole : whole stage ≡ stage_length
   pub from : residuals_at (length ws) ≤ at
-  pub to : at + length stage ≤ residuals_at (length ws) + 16 * k
+  pub to : at + length stage.held ≤ residuals_at (length ws) + 16 * k
   pub state : after (size p₀) (held p) (drop (2 * k) ws) ≡ after (size p₀) (held p₀) ws
   pub end :
-      at + length stage + length (all_residual_bytes (left (size p₀) ws (held p) (2 * k)))
+      at + length stage.held + length (all_residual_bytes (left (size p₀) ws (held p) (2 * k)))
       ≡ residuals_at (length ws) + length (all_residual_bytes (coded_words dfcm_chosen (size p₀) (held p₀) ws))
   pub bytes :
-      sets (sets out (8 + k) (code_bytes (codes (left (size p₀) ws (held p) (2 * k))))) at (stage ++ all_residual_bytes (left (size p₀) ws (held p) (2 * k)))
+      sets (sets out (8 + k) (code_bytes (codes (left (size p₀) ws (held p) (2 * k))))) at (stage.held ++ all_residual_bytes (left (size p₀) ws (held p) (2 * k)))
       ≡ sets (sets out₀ 8 (code_bytes (codes (coded_words dfcm_chosen (size p₀) (held p₀) ws)))) (residuals_at (length ws))
       (all_residual_bytes (coded_words dfcm_chosen (size p₀) (held p₀) ws))
 
@@ -52,12 +54,13 @@ two_dropped ws k h =
 joined : (a b c d : List ℕ) → a ++ (b ++ c) ++ d ≡ a ++ (b ++ (c ++ d))
 joined a b c d = append_assoc a (b ++ c) d ∙ ap (λ (x : List ℕ). a ++ x) (append_assoc b c d)
 
-pub going-starts : (ws : List ℕ) (p : Predictors) (out stage : List ℕ) → Putting ws p out stage → Going ws p out p out stage (residuals_at (length ws)) 0
+pub going-starts : (ws : List ℕ) (p : Predictors) (out : List ℕ) (stage : Waiting) → Putting ws p out stage → Going ws p out p out stage (residuals_at (length ws)) 0
 going-starts ws p out stage q =
     record {
       upto = omega arith;
       learnt = record { same_fcm = refl; same_dfcm = refl; same_size = refl; able = q.able; holds = refl };
       out_long = refl;
+      stage_whole = rw q.staged (omega (arith, q.free));
       from = omega arith;
       to = rw q.staged (omega arith);
       state = refl;
@@ -65,12 +68,12 @@ going-starts ws p out stage q =
       bytes = rw q.staged;
     }
 
-module _ {ws : List ℕ} {p₀ : Predictors} {out₀ : List ℕ} {p : Predictors} {out stage : List ℕ} {at k : ℕ} (room : worst (length ws) ≤ length out₀) (g : Going ws p₀ out₀ p out stage at k) where
-  pub going-staged : at + length stage ≤ length out
+module _ {ws : List ℕ} {p₀ : Predictors} {out₀ : List ℕ} {p : Predictors} {out : List ℕ} {stage : Waiting} {at k : ℕ} (room : worst (length ws) ≤ length out₀) (g : Going ws p₀ out₀ p out stage at k) where
+  pub going-staged : at + length stage.held ≤ length out
   going-staged = omega (arith, g.to, g.upto, g.out_long, room)
 
   -- making room moves staged bytes to their place and changes nothing else
-  pub going-room : (out' stage' : List ℕ) (at' : ℕ) → length out' ≡ length out → MakesRoom out stage at out' stage' at' → Going ws p₀ out₀ p out' stage' at' k
+  pub going-room : (out' : List ℕ) (stage' : Waiting) (at' : ℕ) → length out' ≡ length out → MakesRoom out stage at out' stage' at' → Going ws p₀ out₀ p out' stage' at' k
   going-room out' stage' at' l m =
       let cs = left (size p₀) ws (held p) (2 * k) in
       let cb = code_bytes (codes cs) in
@@ -82,20 +85,21 @@ module _ {ws : List ℕ} {p₀ : Predictors} {out₀ : List ℕ} {p : Predictors
         upto = g.upto;
         learnt = g.learnt;
         out_long = l ∙ g.out_long;
+        stage_whole = m.same_whole ∙ g.stage_whole;
         from = omega (arith, m.from, g.from);
         to = omega (arith, m.same, g.to);
         state = g.state;
         end = omega (arith, m.same, g.end);
         bytes =
-            over-codes out' at' stage' m.from
-            ∙ ap (λ (o : List ℕ). sets (sets o (8 + k) cb) (at' + length stage') rs) m.held
-            ∙ ap (λ (x : ℕ). sets (sets (sets out at stage) (8 + k) cb) x rs) m.same
-            ∙ sym (over-codes out at stage (omega arith))
+            over-codes out' at' stage'.held m.from
+            ∙ ap (λ (o : List ℕ). sets (sets o (8 + k) cb) (at' + length stage'.held) rs) m.held
+            ∙ ap (λ (x : ℕ). sets (sets (sets out at stage.held) (8 + k) cb) x rs) m.same
+            ∙ sym (over-codes out at stage.held (omega arith))
             ∙ g.bytes;
       }
 
   -- a turn
-  pub going_on : (p' : Predictors) (stage' : List ℕ) (byte : ℕ) → k < length ws / 2 → StagesPair p (get_or ws (2 * k) 0) (get_or ws (2 * k + 1) 0) stage p' stage' byte
+  pub going_on : (p' : Predictors) (stage' : Waiting) (byte : ℕ) → k < length ws / 2 → StagesPair p (get_or ws (2 * k) 0) (get_or ws (2 * k + 1) 0) stage p' stage' byte
       → Going ws p₀ out₀ p' (set out (8 + k) byte) stage' at (k + 1)
   going_on p' stage' byte h s =
       let t = size p₀ in
@@ -107,20 +111,21 @@ module _ {ws : List ℕ} {p₀ : Predictors} {out₀ : List ℕ} {p : Predictors
       let dc : drop (2 * k) ws ≡ v ∷ w ∷ drop (2 * (k + 1)) ws = two_dropped ws k (omega arith) in
       let m : held p' ≡ learn t (learn t (held p) v) w = rw t-is at s.learnt.holds in
       let b : byte ≡ x.code * 16 + y.code = rw t-is at s.codes_are in
-      let q : stage' ≡ stage ++ (residual_bytes x ++ residual_bytes y) = rw t-is at s.bytes in
-      let e : length stage' ≡ length stage + (length (residual_bytes x) + length (residual_bytes y)) =
-      rw q (omega (arith, length-append stage (residual_bytes x ++ residual_bytes y), length-append (residual_bytes x) (residual_bytes y))) in
+      let q : stage'.held ≡ stage.held ++ (residual_bytes x ++ residual_bytes y) = rw t-is at s.adds.held in
+      let e : length stage'.held ≡ length stage.held + (length (residual_bytes x) + length (residual_bytes y)) =
+      rw q (omega (arith, length-append stage.held (residual_bytes x ++ residual_bytes y), length-append (residual_bytes x) (residual_bytes y))) in
       let z : 8 + (k + 1) ≡ suc (8 + k) = omega arith in
       let cs = coded_words dfcm_chosen t (learn t (learn t (held p) v) w) (drop (2 * (k + 1)) ws) in
       record {
         upto = omega arith;
         learnt = rw s.learnt.holds (becomes-then p₀ p p' (held p) _ g.learnt s.learnt);
         out_long = length-set out (8 + k) _ ∙ g.out_long;
+        stage_whole = s.adds.same_whole ∙ g.stage_whole;
         from = g.from;
         to = omega (arith, g.to, e, length_residual x, length_residual y, written_small x.code, written_small y.code);
         state = rw m (rw dc at g.state);
         end = rw m (omega (arith, e, length_residual x, length_residual y, rw dc at g.end, length_residuals x (y ∷ cs), length_residuals y cs));
-        bytes = rw (m, b, q, z, joined stage (residual_bytes x) (residual_bytes y) _) (rw dc at g.bytes);
+        bytes = rw (m, b, q, z, joined stage.held (residual_bytes x) (residual_bytes y) _) (rw dc at g.bytes);
       }
 
 -- ---- around the loop: the predictors before it, the head put after it

@@ -23,7 +23,7 @@ fn put_rest(
     at: usize,
 ) -> usize
     requires { Resting words.now predictors.old out.old stage.old at }
-    ensures { Puts predictors.old (unpaired words.now) (8 + length words.now / 2) at stage.old out.old predictors.new out.new result }
+    ensures { Puts predictors.old (unpaired words.now) (8 + length words.now / 2) at stage.old.held out.old predictors.new out.new result }
 {
     let count = words.len();
     if count % 2 == 0 {

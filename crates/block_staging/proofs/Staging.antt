@@ -1,6 +1,6 @@
 -- Staging residual bytes: eight stored at a time, of which a code's own number counts.
-use Rattle.std.proofs.Common.{◌≡◌, ℕ, zero, suc, ◌+◌, ◌*◌, ◌/◌, ◌%◌, ◌^◌, ◌<◌, ◌≤◌, List, ◌∷◌, ◌++◌, length, get_or, take, drop, sym, refl, ap, ◌∙◌, append_assoc, append-nil, arith, length-append, length-take-le}
-use lib.Seq.{sets, sets-eq, take-append-add, take-append-le}
+use Rattle.std.proofs.Common.{◌≡◌, ℕ, zero, suc, ◌+◌, ◌-◌, ◌*◌, ◌/◌, ◌%◌, ◌^◌, ◌<◌, ◌≤◌, List, ◌∷◌, ◌++◌, length, take, drop, sym, refl, ap, ◌∙◌, append_assoc, append-nil, arith, length-append, length-take-le}
+use lib.Seq.{sets, length-sets, sets-eq, take-append-add, take-append-le}
 use Rattle.words.specs.Words.{xor}
 use Rattle.words.specs.Bytes.{low_bytes}
 use Rattle.words.proofs.Zeros.{zeros_of_zero}
@@ -12,7 +12,8 @@ use Rattle.block_rules.proofs.Codes.{written_small}
 use Rattle.block_rules.proofs.Choices.{chosen-fcm, chosen-dfcm, coded-small}
 use Rattle.block_rules.proofs.Choices.{zero_by_fcm, zero_by_dfcm}
 use Rattle.block_rules.proofs.Lengths.{length_residual}
-use Rattle.block_staging.specs.Inside.{StagesChosen, StagesWord, StagesPair}
+use Rattle.block_staging.specs.Waiting.{Waiting}
+use Rattle.block_staging.specs.Inside.{Adds, StagesChosen, StagesWord, StagesPair}
 use Rattle.block_choice.specs.Inside.{held, size, Becomes}
 use Rattle.block_choice.specs.declared.predict.Predictors.{Predictors}
 use Rattle.block_choice.proofs.Learning.{becomes-then}
@@ -38,23 +39,29 @@ eight_staged stage staged k x h l =
 -- ---- the chosen residual
 
 -- of the eight bytes stored those of the code are staged
-pub code_staged : (bytes : List ℕ) (staged : ℕ) (c : Coded) (k : ℕ) → staged + 8 ≤ length bytes → k ≡ written c.code
-    → take (staged + k) (sets bytes staged (low_bytes 8 c.residual)) ≡ take staged bytes ++ residual_bytes c
+pub code_staged : (bytes bytes' : List ℕ) (staged : ℕ) (c : Coded) (k : ℕ) → staged + 8 ≤ length bytes → k ≡ written c.code → bytes' ≡ sets bytes staged (low_bytes 8 c.residual)
+    → Adds (record { held = take staged bytes; room = length bytes - staged }) (residual_bytes c) (record { held = take (staged + k) bytes'; room = length bytes' - (staged + k) })
 unfolding residual_bytes
-code_staged bytes staged c k h e = rw e (eight_staged bytes staged (written c.code) c.residual h (written_small c.code))
+code_staged bytes bytes' staged c k h e q =
+    let same : length bytes' ≡ length bytes = ap length q ∙ length-sets bytes staged (low_bytes 8 c.residual) in
+    let few : k ≤ 8 = rw e (written_small c.code) in
+    record {
+      held = rw (q, e) (eight_staged bytes staged (written c.code) c.residual h (written_small c.code));
+      same_whole = omega (arith, same, few, length-take-le staged bytes (omega arith), length-take-le (staged + k) bytes' (omega arith));
+    }
 
 -- a residual of 0 has nothing to stage
-nothing_staged : (stage : List ℕ) (code : ℕ) (c : Coded) → c ≡ record { code = code; residual = 0 } → written code ≡ 0 → StagesChosen stage c stage code
+nothing_staged : (stage : Waiting) (code : ℕ) (c : Coded) → c ≡ record { code = code; residual = 0 } → written code ≡ 0 → StagesChosen stage c stage code
 unfolding residual_bytes
-nothing_staged stage code c e z = record { code_is = sym (ap (λ (y : Coded). y.code) e); bytes = rw (e, z) (sym (append-nil _)) }
+nothing_staged stage code c e z = record { code_is = sym (ap (λ (y : Coded). y.code) e); adds = record { held = rw (e, z) (sym (append-nil _)); same_whole = refl } }
 
-pub fcm_zero : (stage : List ℕ) (f d : ℕ) → f ≡ 0 → StagesChosen stage (chosen dfcm_chosen f d) stage 7
+pub fcm_zero : (stage : Waiting) (f d : ℕ) → f ≡ 0 → StagesChosen stage (chosen dfcm_chosen f d) stage 7
 unfolding coded_by low_three written
 fcm_zero stage f d e =
     nothing_staged stage 7 (chosen dfcm_chosen f d)
     (sym (chosen-fcm dfcm_chosen f d (record { code = 7; residual = 0 }) (zero_by_fcm f d e) (rw (zeros_of_zero f e, e)))) refl
 
-pub dfcm_zero : (stage : List ℕ) (f d : ℕ) → f < 2 ^ 64 → (f ≡ 0 → ⊥) → d ≡ 0 → StagesChosen stage (chosen dfcm_chosen f d) stage 15
+pub dfcm_zero : (stage : Waiting) (f d : ℕ) → f < 2 ^ 64 → (f ≡ 0 → ⊥) → d ≡ 0 → StagesChosen stage (chosen dfcm_chosen f d) stage 15
 unfolding coded_by low_three written
 dfcm_zero stage f d h n e =
     nothing_staged stage 15 (chosen dfcm_chosen f d)
@@ -67,27 +74,32 @@ pub coded-word : (m : Memory) (v p q : ℕ) → p ≡ fcm_prediction m → q ≡
 unfolding coded_word fcm_residual dfcm_residual
 coded-word m v p q e g = cc
 
-pub word-staged : (p p' : Predictors) (v : ℕ) (stage stage' : List ℕ) (code : ℕ) (x : Coded)
+pub word-staged : (p p' : Predictors) (v : ℕ) (stage stage' : Waiting) (code : ℕ) (x : Coded)
     → x ≡ coded_word dfcm_chosen (held p) v → Becomes p (learn (size p) (held p) v) p' → StagesChosen stage x stage' code → StagesWord p v stage p' stage' code
-word-staged p p' v stage stage' code x e l s = record { code_is = s.code_is ∙ ap (λ (y : Coded). y.code) e; learnt = l; bytes = rw (← e) s.bytes }
+word-staged p p' v stage stage' code x e l s = record { code_is = s.code_is ∙ ap (λ (y : Coded). y.code) e; learnt = l; adds = rw (← e) s.adds }
 
 -- a word's code has four bits, and it stages at most eight bytes
-module _ {p p' : Predictors} {v : ℕ} {stage stage' : List ℕ} {code : ℕ} (s : StagesWord p v stage p' stage' code) where
+module _ {p p' : Predictors} {v : ℕ} {stage stage' : Waiting} {code : ℕ} (s : StagesWord p v stage p' stage' code) where
   pub word-code : code ≤ 15
   word-code = rw s.code_is (coded-small dfcm_chosen (held p) v)
 
-  pub word_room : length stage' ≤ length stage + 8
-  word_room =
+  pub word_bytes : length stage'.held ≤ length stage.held + 8
+  word_bytes =
       let x = coded_word dfcm_chosen (held p) v in
-      rw s.bytes (omega (arith, length-append stage (residual_bytes x), length_residual x, written_small x.code))
+      rw s.adds.held (omega (arith, length-append stage.held (residual_bytes x), length_residual x, written_small x.code))
 
-pub pair_staged : (p p₁ p' : Predictors) (v w : ℕ) (stage stage₁ stage' : List ℕ) (one two : ℕ)
+  pub word_room : stage.room ≤ stage'.room + 8
+  word_room = omega (arith, s.adds.same_whole, word_bytes)
+
+adds-then : (s s₁ s' : Waiting) (xs ys : List ℕ) → Adds s xs s₁ → Adds s₁ ys s' → Adds s (xs ++ ys) s'
+adds-then s s₁ s' xs ys a b = record { held = b.held ∙ rw a.held (append_assoc s.held xs ys); same_whole = b.same_whole ∙ a.same_whole }
+
+pub pair_staged : (p p₁ p' : Predictors) (v w : ℕ) (stage stage₁ stage' : Waiting) (one two : ℕ)
     → StagesWord p v stage p₁ stage₁ one → StagesWord p₁ w stage₁ p' stage' two → StagesPair p v w stage p' stage' (one * 16 + two)
 pair_staged p p₁ p' v w stage stage₁ stage' one two a b =
     let m = learn (size p) (held p) v in
-    let x = coded_word dfcm_chosen (held p) v in
     let y = coded_word dfcm_chosen m w in
     let code : two ≡ y.code = rw a.learnt.holds at b.code_is in
-    let bytes : stage' ≡ stage₁ ++ residual_bytes y = rw a.learnt.holds at b.bytes in
+    let adds : Adds stage₁ (residual_bytes y) stage' = rw a.learnt.holds at b.adds in
     let learnt : Becomes p₁ (learn (size p) m w) p' = rw (a.learnt.holds, a.learnt.same_size) at b.learnt in
-    record { codes_are = rw (a.code_is, code); learnt = becomes-then p p₁ p' m _ a.learnt learnt; bytes = bytes ∙ rw a.bytes (append_assoc stage (residual_bytes x) (residual_bytes y)) }
+    record { codes_are = rw (a.code_is, code); learnt = becomes-then p p₁ p' m _ a.learnt learnt; adds = adds-then _ _ _ _ _ a.adds adds }

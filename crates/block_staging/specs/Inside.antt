@@ -6,35 +6,38 @@ use Rattle.block_rules.specs.Codes.{dfcm_chosen, coded_word, residual_bytes}
 use Rattle.block_rules.specs.declared.Coded.{Coded}
 use Rattle.block_choice.specs.Inside.{held, size, Becomes}
 use Rattle.block_choice.specs.declared.predict.Predictors.{Predictors}
+use Rattle.block_staging.specs.Waiting.{Waiting, whole}
 
--- the bytes that a stage has room for
-abbrev pub stage_length : ℕ
-stage_length = 480
-
--- with so many of them staged at most, two words more have room
+-- so many bytes wait at most once room was made: in a buffer of 480, two words more have room then
 abbrev pub most_staged : ℕ
 most_staged = 464
 
+-- bytes are added to those that wait, in the same buffer
+pub record Adds (stage : Waiting) (bytes : List ℕ) (stage' : Waiting) : Type 0 where
+  pub held : stage'.held ≡ stage.held ++ bytes
+  pub same_whole : whole stage' ≡ whole stage
+
 -- the residual bytes of a coded residual are staged, and its code is answered
-pub record StagesChosen (stage : List ℕ) (c : Coded) (stage' : List ℕ) (code : ℕ) : Type 0 where
+pub record StagesChosen (stage : Waiting) (c : Coded) (stage' : Waiting) (code : ℕ) : Type 0 where
   pub code_is : code ≡ c.code
-  pub bytes : stage' ≡ stage ++ residual_bytes c
+  pub adds : Adds stage (residual_bytes c) stage'
 
 -- a word was coded, staged and learnt, and its code is answered
-pub record StagesWord (p : Predictors) (v : ℕ) (stage : List ℕ) (p' : Predictors) (stage' : List ℕ) (code : ℕ) : Type 0 where
+pub record StagesWord (p : Predictors) (v : ℕ) (stage : Waiting) (p' : Predictors) (stage' : Waiting) (code : ℕ) : Type 0 where
   pub code_is : code ≡ (coded_word dfcm_chosen (held p) v).code
   pub learnt : Becomes p (learn (size p) (held p) v) p'
-  pub bytes : stage' ≡ stage ++ residual_bytes (coded_word dfcm_chosen (held p) v)
+  pub adds : Adds stage (residual_bytes (coded_word dfcm_chosen (held p) v)) stage'
 
 -- two words were coded, staged and learnt, and both codes are answered
-pub record StagesPair (p : Predictors) (v w : ℕ) (stage : List ℕ) (p' : Predictors) (stage' : List ℕ) (byte : ℕ) : Type 0 where
+pub record StagesPair (p : Predictors) (v w : ℕ) (stage : Waiting) (p' : Predictors) (stage' : Waiting) (byte : ℕ) : Type 0 where
   pub codes_are : byte ≡ (coded_word dfcm_chosen (held p) v).code * 16 + (coded_word dfcm_chosen (learn (size p) (held p) v) w).code
   pub learnt : Becomes p (learn (size p) (learn (size p) (held p) v) w) p'
-  pub bytes : stage' ≡ stage ++ (residual_bytes (coded_word dfcm_chosen (held p) v) ++ residual_bytes (coded_word dfcm_chosen (learn (size p) (held p) v) w))
+  pub adds : Adds stage (residual_bytes (coded_word dfcm_chosen (held p) v) ++ residual_bytes (coded_word dfcm_chosen (learn (size p) (held p) v) w)) stage'
 
--- there is room for two words more: what was staged may have been copied out, and what it comes to is the same
-pub record MakesRoom (out stage : List ℕ) (at : ℕ) (out' stage' : List ℕ) (at' : ℕ) : Type 0 where
-  pub few : length stage' ≤ most_staged
+-- few bytes wait: what was staged may have been copied out, and what it comes to is the same
+pub record MakesRoom (out : List ℕ) (stage : Waiting) (at : ℕ) (out' : List ℕ) (stage' : Waiting) (at' : ℕ) : Type 0 where
+  pub few : length stage'.held ≤ most_staged
+  pub same_whole : whole stage' ≡ whole stage
   pub from : at ≤ at'
-  pub same : at' + length stage' ≡ at + length stage
-  pub held : sets out' at' stage' ≡ sets out at stage
+  pub same : at' + length stage'.held ≡ at + length stage.held
+  pub held : sets out' at' stage'.held ≡ sets out at stage.held

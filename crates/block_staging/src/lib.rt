@@ -8,15 +8,15 @@ ghost use Rattle.words.specs.Words.{xor};
 ghost use Rattle.words.specs.Bytes.{low_bytes};
 ghost use Rattle.block_rules.specs.Codes.{dfcm_chosen, chosen, residual_bytes};
 ghost use Rattle.block_choice.specs.Inside.{Able};
-ghost use Rattle.block_staging.specs.Inside.{stage_length, StagesChosen, StagesWord, StagesPair, MakesRoom};
+ghost use Rattle.block_staging.specs.Inside.{Adds, StagesChosen, StagesWord, StagesPair, MakesRoom};
 
 use block_choice::Predictors;
 use block_rules::Coded;
 use std::marker::Model;
 
-// Residual bytes that wait to be copied to the output, seen as the list of them. The buffer is lent: beside
-// a buffer of its own their number would go through memory with each word, and packing would take a tenth
-// to a third longer.
+// Residual bytes that wait to be copied to the output, seen as the list of them and how many more have room.
+// The buffer is lent: beside a buffer of its own their number would go through memory with each word, and
+// packing would take a tenth to a third longer.
 #[derive(Drop)]
 pub struct Stage<'a> {
     bytes: &'a mut [u8],
@@ -24,28 +24,28 @@ pub struct Stage<'a> {
 }
 
 impl<'a> Model for Stage<'a> {
-    ghost use Rattle.std.specs.Prelude.{ℕ, List, ◌≡◌, ◌≤◌, length, take};
+    ghost use Rattle.std.specs.Prelude.{◌-◌, ◌≤◌, length, take};
+    ghost use Rattle.block_staging.specs.Waiting.{Waiting};
 
-    ghost Value = { List ℕ };
+    ghost Value = { Waiting };
 
-    ghost view = { λ s. take s.staged s.bytes.now };
+    ghost view = { λ s. record { held = take s.staged s.bytes.now; room = length s.bytes.now - s.staged } };
 
-    ghost invariant = { λ s. (length s.bytes.now ≡ 480) × (s.staged ≤ 480) };
+    ghost invariant = { λ s. s.staged ≤ length s.bytes.now };
 }
 
 impl<'a> Stage<'a> {
-    // A stage where nothing waits.
+    // A stage where nothing waits. It has room for as many bytes as the buffer.
     pub fn new(bytes: &'a mut [u8]) -> Self
-        requires { length bytes.old ≡ stage_length }
-        ensures { result ≡ [] }
+        ensures { (result.held ≡ []) × (result.room ≡ length bytes.old) }
     {
         Stage { bytes, staged: 0 }
     }
 
     // Adds the residual bytes of a code.
     fn push(&mut self, coded: Coded)
-        requires { length self.old + 8 ≤ stage_length }
-        ensures { self.new ≡ self.old ++ residual_bytes coded }
+        requires { 8 ≤ self.old.room }
+        ensures { Adds self.old (residual_bytes coded) self.new }
     {
         store_eight(self.bytes, self.staged, coded.residual);
         self.staged += block_choice::written_by_table(coded.code);
@@ -53,16 +53,17 @@ impl<'a> Stage<'a> {
 
     // Copies what waits to its place, and answers where it ends.
     pub fn flush(&self, out: &mut [u8], at: usize) -> usize
-        requires { at + length self.now ≤ length out.old }
-        ensures { (result ≡ at + length self.now) × (out.new ≡ sets out.old at self.now) }
+        requires { at + length self.now.held ≤ length out.old }
+        ensures { (result ≡ at + length self.now.held) × (out.new ≡ sets out.old at self.now.held) }
     {
         words::copy_in(out, at, &self.bytes[..self.staged]);
         at + self.staged
     }
 
-    // Sees that two more words fit. Answers where what waits then goes.
+    // Sees that at most 464 bytes wait: in a buffer of 480, two more words fit then. Answers where what waits
+    // then goes.
     pub fn make_room(&mut self, out: &mut [u8], at: usize) -> usize
-        requires { at + length self.old ≤ length out.old }
+        requires { at + length self.old.held ≤ length out.old }
         ensures { MakesRoom out.old self.old at out.new self.new result }
     {
         if self.staged <= 464 {
@@ -87,7 +88,7 @@ fn store_eight(stage: &mut [u8], at: usize, residual: u64)
 // is predicted has no byte, and most words of a map are: so that is asked first, and nothing is worked
 // out for it.
 fn stage_chosen(stage: &mut Stage, word: u64, fcm_predicts: u64, dfcm_predicts: u64) -> u8
-    requires { length stage.old + 8 ≤ stage_length }
+    requires { 8 ≤ stage.old.room }
     ensures { StagesChosen stage.old (chosen dfcm_chosen (xor word fcm_predicts) (xor word dfcm_predicts)) stage.new result }
 {
     if word == fcm_predicts {
@@ -103,7 +104,7 @@ fn stage_chosen(stage: &mut Stage, word: u64, fcm_predicts: u64, dfcm_predicts: 
 
 // Codes one word, stages its residual bytes, and both predictors learn it. Answers its code.
 pub fn stage_word(predictors: &mut Predictors, stage: &mut Stage, word: u64) -> u8
-    requires { (length stage.old + 8 ≤ stage_length) × Able predictors.old }
+    requires { (8 ≤ stage.old.room) × Able predictors.old }
     ensures { StagesWord predictors.old word stage.old predictors.new stage.new result }
 {
     let fcm_predicts = predictors.fcm_prediction();
@@ -115,7 +116,7 @@ pub fn stage_word(predictors: &mut Predictors, stage: &mut Stage, word: u64) -> 
 // The same for two words, of which the first is words[at]. Answers both codes in one byte. The second is
 // read when its turn has come: no register is free to keep it.
 pub fn stage_pair(predictors: &mut Predictors, stage: &mut Stage, words: &[u64], at: usize) -> u8
-    requires { (length stage.old + 16 ≤ stage_length) × Able predictors.old × (at + 2 ≤ length words.now) }
+    requires { (16 ≤ stage.old.room) × Able predictors.old × (at + 2 ≤ length words.now) }
     ensures { StagesPair predictors.old (slice_index words.now at) (slice_index words.now (at + 1)) stage.old predictors.new stage.new result }
 {
     let one = stage_word(predictors, stage, words[at]);

@@ -5,4 +5,4 @@ use Rattle.block_packing.proofs.PutLoop.{Going}
 use Rattle.block_packing.proofs.put_words.Given as goal
 
 abbrev pub invariant-loop-k : goal.invariant-loop-k
-invariant-loop-k l = (length l.stage ≤ most_staged) × Going l.words l.initial.predictors l.initial.out l.predictors l.out l.stage l.at l.k
+invariant-loop-k l = (length l.stage.held ≤ most_staged) × Going l.words l.initial.predictors l.initial.out l.predictors l.out l.stage l.at l.k

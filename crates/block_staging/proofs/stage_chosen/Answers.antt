@@ -12,4 +12,4 @@ returns-then-word-dfcm_predicts c = dfcm_zero _ _ _ (xor-word _ _ (omega arith) 
 
 pub returns : goal.returns
 unfolding xor
-returns c = record { code_is = rw c.chosen-coded.ensures; bytes = rw c.chosen-coded.ensures at c.push.ensures }
+returns c = record { code_is = rw c.chosen-coded.ensures; adds = rw c.chosen-coded.ensures at c.push.ensures }
