@@ -66,7 +66,7 @@ pub fn replace_block(
         start: trailer.start - old + new,
         ..trailer
     };
-    let new_length = exam_writing::put_trailer(file, new_trailer, exam);
+    let new_length = exam_writing::end_file(file, new_trailer, exam);
     words::wipe(file, new_length, length);
     new_length
 }

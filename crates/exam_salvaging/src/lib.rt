@@ -107,7 +107,7 @@ fn rebuild(file: &mut [u8], old: &[u8], found: Found, exam: u64, t: u32) -> usiz
         entries: found.kept,
         start: end,
     };
-    exam_writing::put_trailer(file, trailer, exam)
+    exam_writing::end_file(file, trailer, exam)
 }
 
 // Makes a new file of the blocks that stand whole at the start of old bytes. The old slot numbers are
