@@ -42,6 +42,11 @@ put_trailer b b1 b2 b3 b4 b5 b6 b7 at e t exam n l p1 p2 p3 p4 p5 p6 p7 =
     let q6 = join b b5 b6 x5 (low_bytes 4 n) at _ q5 p6 refl in
     join b b6 b7 x6 (low_bytes 8 l) at _ q6 p7 refl
 
+-- the place and the length that the trailer states are numbers of their own, so that a wrong one is refused as such
+pub trails : (b b' : List ℕ) (tr : Trailer) (exam at stated l : ℕ) → b' ≡ sets b at (trailer_bytes tr.edition tr.t exam tr.entries stated) → at ≡ tr.start + 12 * tr.entries → stated ≡ l → l ≡ tr.start + 12 * tr.entries + 32
+    → Trails b tr exam b' l
+trails b b' tr exam at stated l q e1 e2 e3 = record { end = e3; bytes = rw (e1, e2) at q }
+
 pub create_done : (b b' : List ℕ) (exam t l : ℕ) → create_number exam t (length b) ≡ 0 → Trails b (record { edition = 1; t = t; entries = 0; start = 0 }) exam b' l
     → Creates b exam t (record { number = 0; length = l }) b'
 unfolding file_bytes
