@@ -1,10 +1,10 @@
 -- Appending to a file that was opened or refused.
-use mathlib.Core.Path.{◌≡◌, refl, sym, ap, ap₂, ◌∙◌}
+use mathlib.Core.Path.{◌≡◌, sym, ap, ap₂, ◌∙◌}
 use mathlib.Core.List.{List, ◌++◌, append_assoc}
 use Prim.Native.Nat.{ℕ, zero, suc, ◌+◌, ◌-◌, ◌*◌, ◌/◌, ◌%◌, ◌^◌, ◌≤◌, ◌<◌}
 use native.Mathlib.Omega.{arith}
-use lib.ListN.{length, take, drop, length-append, length-drop}
-use lib.Seq.{drop-drop, length-take-le, take-append-le, drop-append_seam}
+use lib.ListN.{length, take, drop, length-append}
+use lib.Seq.{take-append-le, drop-append_seam}
 use Rattle.words.specs.Bytes.{Bytes, number, field}
 use Rattle.words.proofs.Bytes.{field_below}
 use Rattle.answers.specs.Answers.{over}
@@ -17,11 +17,12 @@ use Rattle.exam_rules.specs.File.{entry, entry_bytes, directory_bytes, trailer_b
 use Rattle.exam_rules.specs.Reading.{entry_at, entries_at, file_in}
 use Rattle.exam_rules.specs.Numbers.{next_slot, append_number}
 use Rattle.exam_rules.specs.Calls.{opened, appends_number, Appends, Done, Refused}
-use Rattle.exam_rules.specs.Inside.{Standing}
+use Rattle.exam_rules.specs.Inside.{entries_listed, Standing}
 use Rattle.exam_rules.specs.declared.Trailer.{Trailer}
 use Rattle.exam_rules.proofs.Opens.{opens_in, refused-tells, done-tells, standing}
 use Rattle.exam_rules.proofs.Parts.{tells-edition, tells-t, tells-entries, tells-start, entries_are, t-small}
 use Rattle.exam_rules.proofs.Changes.{append-stopped, change_done, makes}
+use Rattle.exam_rules.proofs.Listed.{listed-part}
 use Rattle.exam_rules.proofs.Entries.{directory_snoc, entries_in_first}
 use Rattle.exam_rules.proofs.Stands.{stands-ends, stands-body, stands-exam, stands-directory}
 use Rattle.exam_rules.proofs.Accept.{Appendable, appendable}
@@ -48,7 +49,8 @@ module _ (d before last after : List ℕ) (e : d ≡ (before ++ last) ++ after) 
   pub last_small : Bytes d → field 4 0 last < 2 ^ 32
   last_small bytes = rw last_field (field_below 4 (length before) d bytes)
 
-  pub next_of : (x : ℕ) → length after ≡ length d % 12 → x ≡ field 4 0 last → x + 1 ≡ next_slot 0 (entries_at d 0 (length d / 12))
+  pub next_of : (x : ℕ) → length after ≡ length d % 12 → x ≡ field 4 0 last → x + 1 ≡ next_slot 0 (entries_listed d)
+  unfolding entries_listed
   next_of x left q =
       let m = length before / 12 in
       let long : length d ≡ length before + 12 + length after =
@@ -56,24 +58,6 @@ module _ (d before last after : List ℕ) (e : d ≡ (before ++ last) ++ after) 
       let many : length d / 12 ≡ suc m = omega (arith, long, left) in
       let there : 0 + 12 * m ≡ length before = omega (arith, long, left) in
       rw (many, next_last d m 0 0, there) (ap (λ (k : ℕ). k + 1) (q ∙ last_field))
-
-pub none-before : (d : List ℕ) → length d < 12 → 0 ≡ next_slot 0 (entries_at d 0 (length d / 12))
-none-before d h = let e : length d / 12 ≡ 0 = omega arith in rw e
-
--- entries are read from a part of the bytes as from the whole
-entries_in_rest : (f : List ℕ) (n start at : ℕ) → entries_at (drop start f) at n ≡ entries_at f (start + at) n
-unfolding entry_at
-entries_in_rest f zero start at = refl
-entries_in_rest f (suc n) start at =
-    let next : start + (at + 12) ≡ start + at + 12 = omega arith in
-    let four : start + (at + 4) ≡ start + at + 4 = omega arith in
-    let eight : start + (at + 8) ≡ start + at + 8 = omega arith in
-    rw (entries_in_rest f n start (at + 12), drop-drop at start f, drop-drop (at + 4) start f, drop-drop (at + 8) start f, next, four, eight)
-
-entries_in_part : (f : List ℕ) (n start : ℕ) → entries_at (take (12 * n) (drop start f)) 0 n ≡ entries_at f start n
-entries_in_part f n start =
-    let e : start + 0 ≡ start = omega arith in
-    entries_in_first (drop start f) n 0 (12 * n) (omega arith) ∙ entries_in_rest f n start 0 ∙ rw e
 
 -- ---- the file that adding a block makes
 
@@ -110,16 +94,13 @@ module _ (b : List ℕ) (l exam : ℕ) (tr : Trailer) (o : opened b l exam ≡ D
   directory = take (tr.start + 12 * tr.entries - tr.start) (drop tr.start b)
 
   -- the lowest slot that may come next, read from those
-  pub next_read : (next : ℕ) → next ≡ next_slot 0 (entries_at directory 0 (length directory / 12)) → next ≡ next_slot 0 (file_in (take l b)).entries
+  pub next_read : (next : ℕ) → next ≡ next_slot 0 (entries_listed directory) → next ≡ next_slot 0 (file_in (take l b)).entries
   next_read next q =
-      let size : tr.start + 12 * tr.entries - tr.start ≡ 12 * tr.entries = omega arith in
-      let long : length directory ≡ 12 * tr.entries = length-take-le _ (drop tr.start b) (omega (arith, length-drop tr.start b, directory-within)) ∙ size in
-      let many : length directory / 12 ≡ tr.entries = omega (arith, long) in
-      let es : entries_at directory 0 tr.entries ≡ (file_in (take l b)).entries =
-      rw size (entries_in_part b tr.entries tr.start)
+      let es : entries_listed directory ≡ (file_in (take l b)).entries =
+      listed-part b tr.start tr.entries _ (omega arith) (omega (arith, directory-within))
       ∙ sym (entries_in_first b tr.entries tr.start l (omega (arith, stands-ends b l exam tr o)))
       ∙ entries_are (take l b) tr (standing b l exam tr o) in
-      rw (many, es) at q
+      rw es at q
 
 -- ---- append
 

@@ -1,18 +1,18 @@
 // Appending a slot.
 #![tactic(auto)]
 
-ghost use Rattle.std.specs.Prelude.{◌≡◌, ◌/◌, ◌≤◌, length};
+ghost use Rattle.std.specs.Prelude.{◌≡◌, ◌≤◌};
 ghost use Rattle.answers.specs.Refusals.{number_told};
-ghost use Rattle.exam_rules.specs.Reading.{entries_at};
 ghost use Rattle.exam_rules.specs.Numbers.{next_slot, append_number};
 ghost use Rattle.exam_rules.specs.Calls.{opened, Done, made_told, Appends};
+ghost use Rattle.exam_rules.specs.Inside.{entries_listed};
 
 use answers::Refusal;
 use exam_rules::Trailer;
 
 // The lowest slot that may come after the entries of a directory.
 fn next_slot(directory: &[u8]) -> u64
-    ensures { result ≡ next_slot 0 (entries_at directory.now 0 (length directory.now / 12)) }
+    ensures { result ≡ next_slot 0 (entries_listed directory.now) }
 {
     let Some(last) = directory.chunks_exact(12).next_back() else {
         return 0;
@@ -33,7 +33,7 @@ fn check_append(
     buffer: usize,
     bench: usize,
 ) -> Result<(), Refusal>
-    requires { (trailer.t ≤ 16) × (length ≤ 16777216) }
+    requires { length ≤ 16777216 }
     ensures { number_told result ≡ append_number trailer.entries next slot trailer.t count fcm dfcm length buffer bench }
 {
     if 1024 <= trailer.entries {
@@ -94,6 +94,7 @@ pub fn append(
     ensures { Appends file.old length exam slot words.now fcm.old dfcm.old bench.old (made_told result) file.new fcm.new dfcm.new bench.new }
 {
     let opened = exam_opening::open(&file[..], length, exam);
+    // An opening is taken apart so in every call; elsewhere `?` hands a refusal on.
     let Ok(trailer) = opened else {
         return Err(opened.unwrap_err());
     };

@@ -4,7 +4,7 @@
 ghost use Rattle.std.specs.Prelude.{◌≡◌, ◌+◌, ◌≤◌};
 ghost use Rattle.answers.specs.Refusals.{number_told};
 ghost use Rattle.exam_rules.specs.Numbers.{most_bytes, edition_known, joins, entries_number, fields_number, trailer_number, open_number, open_in_number, file_tables_number, store_number};
-ghost use Rattle.exam_rules.specs.Inside.{listed};
+ghost use Rattle.exam_rules.specs.Inside.{entries_listed};
 
 use answers::Refusal;
 
@@ -84,7 +84,7 @@ fn joins(end: u64, next: u64) -> bool
 
 // Refuses a directory that breaks its rule, where its own place is the end of the last block.
 fn check_entries(directory: &[u8], start: usize) -> Result<(), Refusal>
-    ensures { number_told result ≡ entries_number joins 0 0 (listed directory.now) start }
+    ensures { number_told result ≡ entries_number joins 0 0 (entries_listed directory.now) start }
 {
     let mut lowest: u64 = 0;
     let mut from: u64 = 0;
@@ -110,7 +110,8 @@ fn check_entries(directory: &[u8], start: usize) -> Result<(), Refusal>
     Ok(())
 }
 
-// Refuses a file that does not open for an exam.
+// Refuses a file that does not open for an exam. The trailer's fields are read again here, and once more when
+// the file is known to open: a check answers its refusal alone, and these are a few bytes once a call.
 #[tactic(auto, using(std::proofs::lemmas::Bool::Decides::nat_tests, exam_rules::proofs::Opens::trails, crate::proofs::Fields::directory_read), unfolding(exam_rules::specs::Numbers::open_number, answers::specs::Answers::unless, answers::specs::Answers::first_failure))]
 fn check_open(file: &[u8], exam: u64) -> Result<(), Refusal>
     ensures { number_told result ≡ open_number file.now exam }
@@ -139,12 +140,15 @@ pub fn check_open_in(file: &[u8], length: usize, exam: u64) -> Result<(), Refusa
 }
 
 // Refuses tables that differ in length or are not of 2^t words.
-#[tactic(auto, using(std::proofs::lemmas::Bool::Decides::nat_tests), unfolding(exam_rules::specs::Numbers::file_tables_number, answers::specs::Answers::unless, answers::specs::Answers::first_failure))]
+#[tactic(auto, using(std::proofs::lemmas::Bool::Decides::nat_tests, crate::proofs::Fields::no_table), unfolding(exam_rules::specs::Numbers::file_tables_number, answers::specs::Answers::unless, answers::specs::Answers::first_failure))]
 pub fn check_file_tables(t: usize, fcm: usize, dfcm: usize) -> Result<(), Refusal>
-    requires { t ≤ 16 }
     ensures { number_told result ≡ file_tables_number t fcm dfcm }
 {
     if fcm != dfcm {
+        return Err(Refusal::Tables);
+    }
+    // No table has 2^64 words.
+    if 63 < t {
         return Err(Refusal::Tables);
     }
     if fcm != 1usize << t {
@@ -164,7 +168,7 @@ pub fn check_store(
     buffer: usize,
     bench: usize,
 ) -> Result<(), Refusal>
-    requires { (t ≤ 16) × (kept ≤ most_bytes + 12) }
+    requires { kept ≤ most_bytes + 12 }
     ensures { number_told result ≡ store_number t count fcm dfcm kept buffer bench }
 {
     check_file_tables(t, fcm, dfcm)?;

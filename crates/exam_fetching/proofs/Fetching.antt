@@ -18,7 +18,7 @@ use Rattle.exam_rules.specs.Inside.{Standing}
 use Rattle.exam_rules.specs.declared.Trailer.{Trailer}
 use Rattle.exam_rules.proofs.Parts.{tells-t, t-small}
 use Rattle.exam_rules.proofs.Accept.{tables_tell}
-use Rattle.exam_opening.specs.Inside.{Found}
+use Rattle.exam_opening.specs.Inside.{FoundPart}
 use Rattle.exam_opening.specs.declared.Part.{Part}
 use Rattle.exam_opening.proofs.Finding.{not-opened, once-opened}
 use Rattle.exam_fetching.specs.Inside.{opened_fetch_number, FetchesOpened}
@@ -31,7 +31,7 @@ module _ (f : List ℕ) (tr : Trailer) (st : Standing f tr) (slot : ℕ) (fcm df
   unfolding found_number
   not-there k e h = fails_here _ _ _ e h
 
-  module _ (p : Part) (w : Found f slot p) where
+  module _ (p : Part) (w : FoundPart f slot p) where
     abbrev block : List ℕ
     block = take (p.end - p.start) (drop p.start f)
 

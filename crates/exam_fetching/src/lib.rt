@@ -15,7 +15,6 @@ use exam_rules::Trailer;
 // Refuses a block that is found, but whose words cannot be fetched.
 #[tactic(auto, using(std::proofs::lemmas::Bool::Decides::nat_tests), unfolding(exam_rules::specs::Numbers::found_number, block_rules::specs::Calls::checked, answers::specs::Answers::unless, answers::specs::Answers::first_failure, answers::specs::Answers::afterwards))]
 fn check_fetch(block: &[u8], t: usize, fcm: usize, dfcm: usize, room: usize) -> Result<(), Refusal>
-    requires { t ≤ 16 }
     ensures { number_told result ≡ found_number 0 block.now t fcm dfcm room }
 {
     exam_checking::check_file_tables(t, fcm, dfcm)?;
@@ -57,6 +56,7 @@ pub fn fetch(
     ensures { Fetches file.now length exam slot fcm.old dfcm.old words.old (unpacked_told result) fcm.new dfcm.new words.new }
 {
     let opened = exam_opening::open(file, length, exam);
+    // An opening is taken apart so in every call; elsewhere `?` hands a refusal on.
     let Ok(trailer) = opened else {
         return Err(opened.unwrap_err());
     };

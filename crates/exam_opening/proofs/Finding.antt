@@ -14,14 +14,14 @@ use Rattle.exam_rules.specs.File.{Entry, block_of, entry}
 use Rattle.exam_rules.specs.Reading.{file_in, index_of, entry_of, entry_at, directory_at}
 use Rattle.exam_rules.specs.Numbers.{slot_number, find_number, block_in}
 use Rattle.exam_rules.specs.Calls.{opened, Finds, located, Done, Refused}
-use Rattle.exam_rules.specs.Inside.{listed, Standing}
+use Rattle.exam_rules.specs.Inside.{entries_listed, Standing}
 use Rattle.exam_rules.specs.declared.Trailer.{Trailer}
 use Rattle.exam_rules.proofs.Directory.{block_within}
 use Rattle.exam_rules.proofs.Opens.{refused-tells, done-tells, trails-ends, body-long}
 use Rattle.exam_rules.proofs.Parts.{entries_are, many_is, start_is, rules_are, part_of_first}
 use Rattle.exam_rules.proofs.Entries.{entry_in_first}
 use Rattle.exam_rules.proofs.Listed.{has, listed-part, listed-there, position-there, position-missing}
-use Rattle.exam_opening.specs.Inside.{Found}
+use Rattle.exam_opening.specs.Inside.{FoundPart}
 use Rattle.exam_opening.specs.declared.Part.{Part}
 
 -- ---- the part of a slot in a file that is open
@@ -34,10 +34,10 @@ module _ (f : List ℕ) (tr : Trailer) (st : Standing f tr) where
   abbrev pub directory : List ℕ
   directory = take (length f - 32 - tr.start) (drop tr.start f)
 
-  pub lists : listed directory ≡ (file_in f).entries
+  pub lists : entries_listed directory ≡ (file_in f).entries
   lists = listed-part f tr.start tr.entries _ (omega (arith, directory_ends)) (omega (arith, directory_ends)) ∙ entries_are f tr st
 
-  module _ (slot : ℕ) (r : Option ℕ) (e : r ≡ position (has slot) (listed directory)) where
+  module _ (slot : ℕ) (r : Option ℕ) (e : r ≡ position (has slot) (entries_listed directory)) where
     pub part_missing : r ≡ None → 10 ≡ slot_number (file_in f) slot
     unfolding slot_number
     part_missing q = unless_fails _ _ (le-ltb _ _ (position-missing slot (file_in f).entries (rw lists at (sym e ∙ q))))
@@ -71,7 +71,7 @@ module _ (f : List ℕ) (tr : Trailer) (st : Standing f tr) where
             let w = block_within (file_in f) i (entry slot 0 0) st.directory index_is.1 in
             omega (arith, rw (its-entry (entry slot 0 0)).0 at w, body-long f)
 
-        pub part-found : Found f slot (record { index = i; start = offset; end = offset + size })
+        pub part-found : FoundPart f slot (record { index = i; start = offset; end = offset + size })
         unfolding entry_at block_of file_in slot_number
         part-found =
             let k : offset + size - offset ≡ size = omega arith in
@@ -108,7 +108,7 @@ module _ (b : List ℕ) (l exam slot : ℕ) where
         let entry = entry_of slot (file_in (take l b)) in
         cc (afterwards-old (find_number b l exam slot) entry.offset 0 (λ z. h (e ∙ z)), afterwards-old (find_number b l exam slot) entry.size 0 (λ z. h (e ∙ z)))
 
-  module _ (tr : Trailer) (p : Part) (d : Done tr ≡ opened b l exam) (w : Found (take l b) slot p) where
+  module _ (tr : Trailer) (p : Part) (d : Done tr ≡ opened b l exam) (w : FoundPart (take l b) slot p) where
     found_number : 0 ≡ find_number b l exam slot
     found_number = once-opened tr 0 d w.there
 

@@ -8,7 +8,7 @@ use Rattle.exam_rules.specs.Numbers.{slot_number}
 use Rattle.exam_opening.specs.declared.Part.{Part}
 
 -- where the block of a slot that is found stands in a file that is open, and its entry among the entries
-pub record Found (f : List ℕ) (slot : ℕ) (p : Part) : Type 0 where
+pub record FoundPart (f : List ℕ) (slot : ℕ) (p : Part) : Type 0 where
   pub there : 0 ≡ slot_number (file_in f) slot
   pub index : p.index ≡ index_of slot (file_in f).entries
   pub offset : p.start ≡ (entry_of slot (file_in f)).offset
@@ -19,5 +19,5 @@ pub record Found (f : List ℕ) (slot : ℕ) (p : Part) : Type 0 where
 
 -- the part of a slot in a file that is open, or why it is not found
 abbrev pub PartOf : List ℕ → ℕ → Result Part Refusal → Type 0
-PartOf f slot (Ok p) = Found f slot p
+PartOf f slot (Ok p) = FoundPart f slot p
 PartOf f slot (Err r) = refusal_number r ≡ slot_number (file_in f) slot

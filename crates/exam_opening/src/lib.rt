@@ -5,7 +5,7 @@ ghost use Rattle.std.specs.Prelude.{◌≡◌, eqb, position};
 ghost use Rattle.exam_rules.specs.Reading.{file_in};
 ghost use Rattle.exam_rules.specs.Numbers.{trailer_number};
 ghost use Rattle.exam_rules.specs.Calls.{trailer_of, opened_told, opened, Finds, located_told, located};
-ghost use Rattle.exam_rules.specs.Inside.{listed, Standing};
+ghost use Rattle.exam_rules.specs.Inside.{entries_listed, Standing};
 ghost use Rattle.exam_opening.specs.Inside.{PartOf};
 
 use answers::{Refusal, number_told};
@@ -36,7 +36,7 @@ pub fn open(file: &[u8], length: usize, exam: u64) -> Result<Trailer, Refusal>
 
 // Where a slot stands among the entries of a directory, if it is there.
 fn index_of(directory: &[u8], slot: u32) -> Option<usize>
-    ensures { result ≡ position (λ e. eqb e.slot slot) (listed directory.now) }
+    ensures { result ≡ position (λ e. eqb e.slot slot) (entries_listed directory.now) }
 {
     directory
         .chunks_exact(12)
@@ -70,7 +70,8 @@ pub fn part_of(file: &[u8], trailer: Trailer, slot: u32) -> Result<Part, Refusal
 }
 
 // The block of a slot, as a part of the file; an empty part where it is refused. Its number goes
-// into `number`, refused or not.
+// into `number`, refused or not. `locate` answers a Result; here the rules ask for an empty part and a lent
+// number, so that a caller in C is handed the block itself and nothing is copied.
 pub fn find<'a>(file: &'a [u8], length: usize, exam: u64, slot: u32, number: &mut u32) -> &'a [u8]
     ensures { Finds file.now length exam slot result.now number.new }
 {

@@ -22,7 +22,7 @@ use Rattle.exam_rules.proofs.Parts.{no_default, tells-t, t-small}
 use Rattle.exam_rules.proofs.Changes.{change_refused, change_done}
 use Rattle.exam_rules.proofs.Accept.{Storable, storable, find_tells}
 use Rattle.exam_rules.proofs.Stored.{packed_all, bench-within}
-use Rattle.exam_opening.specs.Inside.{Found}
+use Rattle.exam_opening.specs.Inside.{FoundPart}
 use Rattle.exam_opening.specs.declared.Part.{Part}
 use Rattle.exam_opening.proofs.Finding.{once-opened}
 use Rattle.exam_rewriting.specs.Inside.{Replacing, rewritten, Rewrites}
@@ -45,7 +45,7 @@ module _ (b : List ℕ) (l exam slot : ℕ) (words fcm dfcm bench : List ℕ) wh
   not_found k e h = replace_stopped k (fails_here _ _ _ e h) h
 
   -- where the file is open, and the slot was found
-  module _ (tr : Trailer) (o : opened b l exam ≡ Done tr) (p : Part) (w : Found (take l b) slot p) where
+  module _ (tr : Trailer) (o : opened b l exam ≡ Done tr) (p : Part) (w : FoundPart (take l b) slot p) where
     st : Standing (take l b) tr
     st = standing b l exam tr o
 

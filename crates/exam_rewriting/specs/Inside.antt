@@ -7,7 +7,7 @@ use Rattle.exam_rules.specs.Numbers.{most_bytes}
 use Rattle.exam_rules.specs.Calls.{opened, Done}
 use Rattle.exam_rules.specs.Inside.{Entries}
 use Rattle.exam_rules.specs.declared.Trailer.{Trailer}
-use Rattle.exam_opening.specs.Inside.{Found}
+use Rattle.exam_opening.specs.Inside.{FoundPart}
 use Rattle.exam_opening.specs.declared.Part.{Part}
 
 -- n entries at a place, behind a block that had `old` bytes and gets `new`
@@ -34,7 +34,7 @@ pub record Exchanging (b blk : List ℕ) (start old end : ℕ) : Type 0 where
 pub record Replacing (b blk : List ℕ) (l exam : ℕ) (tr : Trailer) (p : Part) : Type 0 where
   pub opens : opened b l exam ≡ Done tr
   pub slot : ℕ
-  pub part : Found (take l b) slot p
+  pub part : FoundPart (take l b) slot p
   pub room : l - (p.end - p.start) + length blk ≤ length b
   pub small : l - (p.end - p.start) + length blk ≤ most_bytes
 

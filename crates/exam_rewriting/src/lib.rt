@@ -15,6 +15,7 @@ fn move_offsets(file: &mut [u8], at: usize, n: usize, old: usize, new: usize)
     requires { Behind file.old at n old new }
     ensures { file.new ≡ sets file.old at (moved_bytes file.old at n old new) }
 {
+    // By number: no law tells what stands in the bytes once `chunks_exact_mut` has lent them out.
     for i in 0..n {
         let place = at + 12 * i;
         let offset = words::get_bytes(&file[..], place + 4, 4);
@@ -66,7 +67,7 @@ pub fn replace_block(
         start: trailer.start - old + new,
         ..trailer
     };
-    let new_length = exam_writing::put_trailer(file, new_trailer, exam);
+    let new_length = exam_writing::end_file(file, new_trailer, exam);
     words::wipe(file, new_length, length);
     new_length
 }

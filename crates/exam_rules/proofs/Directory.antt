@@ -2,37 +2,16 @@
 use mathlib.Core.Path.{◌≡◌, refl, sym, ap, ◌∙◌}
 use mathlib.Core.List.{List, [], ◌∷◌, ◌++◌}
 use mathlib.Core.Bool.{Bool, true}
-use Prim.Native.Nat.{ℕ, zero, suc, ◌+◌, ◌-◌, ◌*◌, ◌^◌, ◌≤◌, ◌<◌}
+use Prim.Native.Nat.{ℕ, zero, suc, ◌+◌, ◌-◌, ◌^◌, ◌≤◌, ◌<◌}
 use native.Mathlib.Omega.{arith}
 use lib.ListN.{length, get_or, length-append}
 use borrow.Author.Tests.{le-leb, leb-true, eqb-true, eq-eqb, ne_eqb}
 use Rattle.answers.proofs.Checks.{unless-passes, unless_holds, none_fails, last_decides, passes}
 use Rattle.exam_rules.specs.File.{Entry, entry, File, empty, appended}
-use Rattle.exam_rules.specs.Reading.{entry_at, entries_at, index_of}
+use Rattle.exam_rules.specs.Reading.{entries_at, index_of}
 use Rattle.exam_rules.specs.Numbers.{edition_known, joins, entries_number, directory_number, next_slot}
 
--- ---- entries read one after another
-
--- of n entries at a place, i are behind; the next is at `place`
-pub record Place (n at place i : ℕ) : Type 0 where
-  pub upto : i ≤ n
-  pub is : place ≡ at + 12 * i
-
-pub place-starts : (n at : ℕ) → Place n at at 0
-place-starts n at = record { upto = omega arith; is = omega arith }
-
-pub place_on : (n at place i : ℕ) → i < n → Place n at place i → Place n at (place + 12) (i + 1)
-place_on n at place i h p = record { upto = omega arith; is = omega (arith, p.is) }
-
-pub entries_next : (f : List ℕ) (place n i : ℕ) → i < n → entries_at f place (n - i) ≡ entry_at f place ∷ entries_at f (place + 12) (n - (i + 1))
-entries_next f place n i h =
-    let e : n - i ≡ suc (n - (i + 1)) = omega arith in
-    rw e
-
-pub entries_none : (f : List ℕ) (place n i : ℕ) → n ≤ i → entries_at f place (n - i) ≡ []
-entries_none f place n i h =
-    let e : n - i ≡ 0 = omega arith in
-    rw e
+-- ---- how many entries are read
 
 pub length-entries : (f : List ℕ) (n at : ℕ) → length (entries_at f at n) ≡ n
 length-entries f zero at = refl

@@ -21,7 +21,7 @@ use Rattle.words.proofs.Tests.{either}
 use Rattle.words.proofs.Bytes.{bytes_take, bytes_drop}
 use Rattle.exam_rules.specs.File.{Entry}
 use Rattle.exam_rules.specs.Reading.{entry_at, entries_at, index_of}
-use Rattle.exam_rules.specs.Inside.{listed}
+use Rattle.exam_rules.specs.Inside.{entries_listed}
 use Rattle.exam_rules.proofs.Directory.{length-entries}
 use Rattle.exam_rules.proofs.Parts.{entry-there}
 use Rattle.exam_rules.proofs.Entries.{entry_in_first, entries_in_first}
@@ -45,23 +45,23 @@ module _ (c f : List ℕ) where
       rw next (ap₂ (λ (e : Entry) (es : List Entry). e ∷ es) (entry_behind at) (entries_behind n (at + 12)))
 
 -- the first twelve bytes are the first entry
-pub listed-next : (c r : List ℕ) → length c ≡ 12 → listed (c ++ r) ≡ entry_at c 0 ∷ listed r
-unfolding listed
+pub listed-next : (c r : List ℕ) → length c ≡ 12 → entries_listed (c ++ r) ≡ entry_at c 0 ∷ entries_listed r
+unfolding entries_listed
 listed-next c r h =
     let n : length (c ++ r) / 12 ≡ suc (length r / 12) = omega (arith, length-append c r) in
     let first : entry_at (c ++ r) 0 ≡ entry_at c 0 = sym (entry_in_first (c ++ r) 0 12 (omega arith)) ∙ ap (λ (l : List ℕ). entry_at l 0) (rw h at (take-append_seam c r)) in
     rw n (ap₂ (λ (x : Entry) (es : List Entry). x ∷ es) first (rw h at (entries_behind c r (length r / 12) 0)))
 
 -- fewer bytes list none
-pub listed-none : (d : List ℕ) → length d < 12 → listed d ≡ []
-unfolding listed
+pub listed-none : (d : List ℕ) → length d < 12 → entries_listed d ≡ []
+unfolding entries_listed
 listed-none d h =
     let n : length d / 12 ≡ 0 = omega arith in
     rw n
 
 -- a part of a file lists the entries that stand there
-pub listed-part : (f : List ℕ) (at n m : ℕ) → m ≡ 12 * n → at + m ≤ length f → listed (take m (drop at f)) ≡ entries_at f at n
-unfolding listed
+pub listed-part : (f : List ℕ) (at n m : ℕ) → m ≡ 12 * n → at + m ≤ length f → entries_listed (take m (drop at f)) ≡ entries_at f at n
+unfolding entries_listed
 listed-part f at n m e h =
     let k : length (take m (drop at f)) / 12 ≡ n = omega (arith, length-take-le m (drop at f) (simp length-drop (omega arith))) in
     let a : length (take at f) ≡ at = length-take-le at f (omega arith) in
@@ -76,14 +76,14 @@ pub record Turning (walk : ChunksExact ℕ) : Type 0 where
 
 -- the entries that are left
 abbrev pub left : ChunksExact ℕ → List Entry
-left walk = listed (chunks_exact_rest walk)
+left walk = entries_listed (chunks_exact_rest walk)
 
 pub left-none : (walk after : ChunksExact ℕ) → Turning walk → chunks_exact_steps walk None after → left walk ≡ []
 left-none walk after t st = listed-none _ (omega (arith, t.size, st.1.0))
 
 module _ (walk after : ChunksExact ℕ) (t : Turning walk) (its : Bor (List ℕ)) (st : chunks_exact_steps walk (Some its) after) where
   pub left-next : left walk ≡ entry_at its.now 0 ∷ left after
-  left-next = ap listed st.1.0 ∙ listed-next its.now (chunks_exact_rest after) (st.1.1 ∙ t.size)
+  left-next = ap entries_listed st.1.0 ∙ listed-next its.now (chunks_exact_rest after) (st.1.1 ∙ t.size)
 
   pub its-bytes : Bytes its.now
   its-bytes i = rw (sym (take-append_seam its.now (chunks_exact_rest after))) (bytes_take (length its.now) _ (rw st.1.0 at t.bytes) i)
@@ -98,8 +98,8 @@ yields_all zero walk z e =
     rw (listed-none (chunks_exact_rest walk) (omega arith)) (λ its after st. omega (arith, z, st.1.1, ap length st.1.0, length-append its.now (chunks_exact_rest after)))
 yields_all (suc n) walk z e =
     let bytes = chunks_exact_rest walk in
-    let parts : listed bytes ≡ entry_at (take 12 bytes) 0 ∷ listed (drop 12 bytes) =
-    ap listed (sym (take-append-drop 12 bytes)) ∙ listed-next (take 12 bytes) (drop 12 bytes) (length-take-le 12 bytes (omega arith)) in
+    let parts : entries_listed bytes ≡ entry_at (take 12 bytes) 0 ∷ entries_listed (drop 12 bytes) =
+    ap entries_listed (sym (take-append-drop 12 bytes)) ∙ listed-next (take 12 bytes) (drop 12 bytes) (length-take-le 12 bytes (omega arith)) in
     rw parts (
       λ after st. omega (arith, z, st.1.0),
       λ its after st.
@@ -110,13 +110,13 @@ yields_all (suc n) walk z e =
     )
 
 pub yields : (directory : List ℕ) (walk : ChunksExact ℕ) → chunks_exact_rest walk ≡ directory → chunks_exact_size walk ≡ 12
-    → YieldsList chunks_exact_steps (λ (its : Bor (List ℕ)). entry_at its.now 0) walk (listed directory)
+    → YieldsList chunks_exact_steps (λ (its : Bor (List ℕ)). entry_at its.now 0) walk (entries_listed directory)
 yields directory walk e z = rw (← e) (record { runs = yields_all _ walk z refl })
 
 -- ---- the entry of a slot
 
-pub listed-there : (d : List ℕ) (i : ℕ) (e : Entry) → i < length (listed d) → (get_or (listed d) i e ≡ entry_at (drop (12 * i) d) 0) × (12 * i + 12 ≤ length d)
-unfolding listed entry_at
+pub listed-there : (d : List ℕ) (i : ℕ) (e : Entry) → i < length (entries_listed d) → (get_or (entries_listed d) i e ≡ entry_at (drop (12 * i) d) 0) × (12 * i + 12 ≤ length d)
+unfolding entries_listed entry_at
 listed-there d i e h =
     let below : i < length d / 12 = omega (arith, length-entries d (length d / 12) 0) in (
       entry-there d (length d / 12) 0 i e below ∙ (rw (zero-add (12 * i), ← (drop-drop 4 (12 * i) d), ← (drop-drop 8 (12 * i) d))),

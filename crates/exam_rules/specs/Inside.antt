@@ -12,8 +12,8 @@ pub record Entries (f : List ℕ) (at n : ℕ) : Type 0 where
   pub few : n ≤ 1024
 
 -- the entries that a directory's bytes list
-unfoldable pub listed : List ℕ → List Entry
-listed directory = entries_at directory 0 (length directory / 12)
+unfoldable pub entries_listed : List ℕ → List Entry
+entries_listed directory = entries_at directory 0 (length directory / 12)
 
 -- a file that is open, and its trailer
 pub record Standing (f : List ℕ) (tr : Trailer) : Type 0 where

@@ -86,6 +86,7 @@ fn put_entries(file: &mut [u8], old: &[u8], at: usize, n: usize)
     ensures { file.new ≡ sets file.old at (directory_bytes (entries_of 0 (numbered 0 (whole_blocks 1024 old.now)))) }
 {
     let mut offset = 0;
+    // By number: no law tells what stands in the bytes once `chunks_exact_mut` has lent them out.
     for i in 0..n {
         let size = words::get_bytes(old, offset + 4, 4) as usize;
         exam_writing::put_entry(file, at + 12 * i, i as u32, offset, size);
@@ -107,7 +108,7 @@ fn rebuild(file: &mut [u8], old: &[u8], found: Found, exam: u64, t: u32) -> usiz
         entries: found.kept,
         start: end,
     };
-    exam_writing::put_trailer(file, trailer, exam)
+    exam_writing::end_file(file, trailer, exam)
 }
 
 // Makes a new file of the blocks that stand whole at the start of old bytes. The old slot numbers are

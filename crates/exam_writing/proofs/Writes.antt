@@ -24,24 +24,28 @@ put_entry b b1 b2 b3 at s o n p1 p2 p3 =
     let q2 = join b b1 b2 (low_bytes 4 s) (low_bytes 4 o) at _ p1 p2 refl in
     join b b2 b3 (low_bytes 4 s ++ low_bytes 4 o) (low_bytes 4 n) at _ q2 p3 refl
 
-pub trails : (b b1 b2 b3 b4 b5 b6 b7 : List ℕ) (tr : Trailer) (exam at d l : ℕ) → at ≡ tr.start + 12 * tr.entries → d ≡ 32 + 12 * tr.entries → l ≡ tr.start + 12 * tr.entries + 32
-    → b1 ≡ sets b at mark → b2 ≡ sets b1 (at + 4) (low_bytes 2 tr.edition) → b3 ≡ sets b2 (at + 6) (low_bytes 2 tr.t)
-    → b4 ≡ sets b3 (at + 8) (low_bytes 8 exam) → b5 ≡ sets b4 (at + 16) (low_bytes 4 d) → b6 ≡ sets b5 (at + 20) (low_bytes 4 tr.entries)
-    → b7 ≡ sets b6 (at + 24) (low_bytes 8 l) → Trails b tr exam b7 l
+pub put_trailer : (b b1 b2 b3 b4 b5 b6 b7 : List ℕ) (at e t exam n l : ℕ)
+    → b1 ≡ sets b at mark → b2 ≡ sets b1 (at + 4) (low_bytes 2 e) → b3 ≡ sets b2 (at + 6) (low_bytes 2 t)
+    → b4 ≡ sets b3 (at + 8) (low_bytes 8 exam) → b5 ≡ sets b4 (at + 16) (low_bytes 4 (32 + 12 * n)) → b6 ≡ sets b5 (at + 20) (low_bytes 4 n)
+    → b7 ≡ sets b6 (at + 24) (low_bytes 8 l) → b7 ≡ sets b at (trailer_bytes e t exam n l)
 unfolding trailer_bytes
-trails b b1 b2 b3 b4 b5 b6 b7 tr exam at d l e1 e2 e3 p1 p2 p3 p4 p5 p6 p7 =
-    let x2 = mark ++ low_bytes 2 tr.edition in
-    let x3 = x2 ++ low_bytes 2 tr.t in
+put_trailer b b1 b2 b3 b4 b5 b6 b7 at e t exam n l p1 p2 p3 p4 p5 p6 p7 =
+    let x2 = mark ++ low_bytes 2 e in
+    let x3 = x2 ++ low_bytes 2 t in
     let x4 = x3 ++ low_bytes 8 exam in
-    let x5 = x4 ++ low_bytes 4 d in
-    let x6 = x5 ++ low_bytes 4 tr.entries in
-    let q2 = join b b1 b2 mark (low_bytes 2 tr.edition) at _ p1 p2 refl in
-    let q3 = join b b2 b3 x2 (low_bytes 2 tr.t) at _ q2 p3 refl in
+    let x5 = x4 ++ low_bytes 4 (32 + 12 * n) in
+    let x6 = x5 ++ low_bytes 4 n in
+    let q2 = join b b1 b2 mark (low_bytes 2 e) at _ p1 p2 refl in
+    let q3 = join b b2 b3 x2 (low_bytes 2 t) at _ q2 p3 refl in
     let q4 = join b b3 b4 x3 (low_bytes 8 exam) at _ q3 p4 refl in
-    let q5 = join b b4 b5 x4 (low_bytes 4 d) at _ q4 p5 refl in
-    let q6 = join b b5 b6 x5 (low_bytes 4 tr.entries) at _ q5 p6 refl in
-    let q7 = join b b6 b7 x6 (low_bytes 8 l) at _ q6 p7 refl in
-    record { end = e3; bytes = rw (e1, e2) at q7 }
+    let q5 = join b b4 b5 x4 (low_bytes 4 (32 + 12 * n)) at _ q4 p5 refl in
+    let q6 = join b b5 b6 x5 (low_bytes 4 n) at _ q5 p6 refl in
+    join b b6 b7 x6 (low_bytes 8 l) at _ q6 p7 refl
+
+-- the place and the length that the trailer states are numbers of their own, so that a wrong one is refused as such
+pub trails : (b b' : List ℕ) (tr : Trailer) (exam at stated l : ℕ) → b' ≡ sets b at (trailer_bytes tr.edition tr.t exam tr.entries stated) → at ≡ tr.start + 12 * tr.entries → stated ≡ l → l ≡ tr.start + 12 * tr.entries + 32
+    → Trails b tr exam b' l
+trails b b' tr exam at stated l q e1 e2 e3 = record { end = e3; bytes = rw (e1, e2) at q }
 
 pub create_done : (b b' : List ℕ) (exam t l : ℕ) → create_number exam t (length b) ≡ 0 → Trails b (record { edition = 1; t = t; entries = 0; start = 0 }) exam b' l
     → Creates b exam t (record { number = 0; length = l }) b'

@@ -5,7 +5,7 @@ ghost use Rattle.std.specs.Prelude.{◌≡◌, ◌+◌, ◌*◌, ◌≤◌};
 ghost use lib.ListN.{length};
 ghost use Rattle.std.proofs.lemmas.List.Edits.{sets};
 ghost use Rattle.answers.specs.Refusals.{number_told};
-ghost use Rattle.exam_rules.specs.File.{entry, entry_bytes};
+ghost use Rattle.exam_rules.specs.File.{entry, entry_bytes, trailer_bytes};
 ghost use Rattle.exam_rules.specs.Numbers.{create_number};
 ghost use Rattle.exam_rules.specs.Calls.{made_told, Creates};
 ghost use Rattle.exam_writing.specs.Inside.{Trails, Adding, Adds};
@@ -13,21 +13,28 @@ ghost use Rattle.exam_writing.specs.Inside.{Trails, Adding, Adds};
 use answers::Refusal;
 use exam_rules::Trailer;
 
-// Writes the trailer of a file, for an exam, behind its directory. Answers the file's length.
-pub fn put_trailer(out: &mut [u8], trailer: Trailer, exam: u64) -> usize
-    requires { (trailer.start + 12 * trailer.entries + 32 ≤ length out.old) × (trailer.entries ≤ 1024) }
-    ensures { Trails out.old trailer exam out.new result }
+// Writes the trailer of a file of a length, for an exam, at a place.
+pub fn put_trailer(out: &mut [u8], at: usize, trailer: Trailer, exam: u64, length: usize)
+    requires { (at + 32 ≤ lib.ListN.length out.old) × (trailer.entries ≤ 1024) }
+    ensures { out.new ≡ sets out.old at (trailer_bytes trailer.edition trailer.t exam trailer.entries length) }
 {
-    let distance = 12 * trailer.entries + 32;
-    let length = trailer.start + distance;
-    let at = length - 32;
     words::copy_in(out, at, b"coil");
     words::put_bytes(out, at + 4, 2, trailer.edition as u64);
     words::put_bytes(out, at + 6, 2, trailer.t as u64);
     words::put_bytes(out, at + 8, 8, exam);
-    words::put_bytes(out, at + 16, 4, distance as u64);
+    words::put_bytes(out, at + 16, 4, (32 + 12 * trailer.entries) as u64);
     words::put_bytes(out, at + 20, 4, trailer.entries as u64);
     words::put_bytes(out, at + 24, 8, length as u64);
+}
+
+// Writes the trailer behind its directory. Answers the file's length.
+pub fn end_file(out: &mut [u8], trailer: Trailer, exam: u64) -> usize
+    requires { (trailer.start + 12 * trailer.entries + 32 ≤ length out.old) × (trailer.entries ≤ 1024) }
+    ensures { Trails out.old trailer exam out.new result }
+{
+    let at = trailer.start + 12 * trailer.entries;
+    let length = at + 32;
+    put_trailer(out, at, trailer, exam, length);
     length
 }
 
@@ -59,7 +66,7 @@ pub fn create(file: &mut [u8], exam: u64, t: u32) -> Result<usize, Refusal>
         entries: 0,
         start: 0,
     };
-    Ok(put_trailer(file, trailer, exam))
+    Ok(end_file(file, trailer, exam))
 }
 
 // Writes a directory entry of 12 bytes at a place.
@@ -90,5 +97,5 @@ pub fn add_block(file: &mut [u8], block: &[u8], trailer: Trailer, slot: u32, exa
         start: moved,
         ..trailer
     };
-    put_trailer(file, new_trailer, exam)
+    end_file(file, new_trailer, exam)
 }

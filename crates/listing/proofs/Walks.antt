@@ -16,7 +16,7 @@ use Rattle.block_rules.specs.Numbers.{block_number}
 use Rattle.exam_rules.specs.File.{Entry, entry, File, block_of}
 use Rattle.exam_rules.specs.Reading.{directory_at, entry_at, file_in}
 use Rattle.exam_rules.specs.Numbers.{entries_number, directory_number}
-use Rattle.exam_rules.specs.Inside.{listed}
+use Rattle.exam_rules.specs.Inside.{entries_listed}
 use Rattle.exam_rules.proofs.Directory.{heads, Forward, ends-before, joins_forward}
 use Rattle.exam_rules.proofs.Listed.{Turning, left, left-none, left-next, turns}
 use Rattle.exam_rules.proofs.Opens.{body-long}
@@ -101,7 +101,7 @@ pub record Checking (f : List ℕ) (walk : ChunksExact ℕ) : Type 0 where
 
 pub check_starts : (f directory : List ℕ) (walk : ChunksExact ℕ) → Directory f directory → Turning walk → chunks_exact_rest walk ≡ directory → Checking f walk
 check_starts f directory walk d t e =
-    let all : left walk ≡ (file_in f).entries = ap listed e ∙ d.lists in
+    let all : left walk ≡ (file_in f).entries = ap entries_listed e ∙ d.lists in
     record { entries = record { turning = t; blocks = rw all (directory-blocks f d.rule) }; same = ap (blocks_number (file_in f)) all }
 
 module _ (f : List ℕ) (walk after : ChunksExact ℕ) (g : Checking f walk) (its : Bor (List ℕ)) (st : chunks_exact_steps walk (Some its) after)
@@ -143,7 +143,7 @@ pub record Writing (f : List ℕ) (text₀ text : Text) (walk : ChunksExact ℕ)
 pub write_starts : (f directory : List ℕ) (text : Text) (walk : ChunksExact ℕ) → Directory f directory → HasRoom text (slot_lines (file_in f) (file_in f).entries)
     → Turning walk → chunks_exact_rest walk ≡ directory → Writing f text text walk
 write_starts f directory text walk d r t e =
-    let all : left walk ≡ (file_in f).entries = ap listed e ∙ d.lists in
+    let all : left walk ≡ (file_in f).entries = ap entries_listed e ∙ d.lists in
     record { entries = record { turning = t; blocks = rw all (directory-blocks f d.rule) }; room = rw all r; rest = λ x p. rw all at p }
 
 module _ (f : List ℕ) (text₀ text : Text) (walk after : ChunksExact ℕ) (g : Writing f text₀ text walk) (its : Bor (List ℕ)) (st : chunks_exact_steps walk (Some its) after)

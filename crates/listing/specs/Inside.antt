@@ -3,7 +3,7 @@ use Rattle.std.specs.Prelude.{◌≡◌, ℕ, ◌+◌, ◌≤◌, List, length}
 use Rattle.std.proofs.lemmas.List.Edits.{sets}
 use Rattle.exam_rules.specs.Reading.{directory_at, entry_at, file_in}
 use Rattle.exam_rules.specs.Numbers.{directory_number}
-use Rattle.exam_rules.specs.Inside.{listed, Standing}
+use Rattle.exam_rules.specs.Inside.{entries_listed, Standing}
 use Rattle.exam_rules.specs.declared.Trailer.{Trailer}
 use Rattle.listing.specs.Text.{listing}
 use Rattle.listing.specs.declared.text.Text.{Text}
@@ -25,7 +25,7 @@ pub record Points (f bytes : List ℕ) : Type 0 where
 
 -- the bytes of a file's directory, which keeps its rule
 pub record Directory (f directory : List ℕ) : Type 0 where
-  pub lists : listed directory ≡ (file_in f).entries
+  pub lists : entries_listed directory ≡ (file_in f).entries
   pub rule : directory_number (file_in f) ≡ 0
 
 -- a file that is open, with its trailer, and room for its whole text

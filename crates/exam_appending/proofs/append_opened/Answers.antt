@@ -1,8 +1,7 @@
 use mathlib.Core.Path.{refl}
 use native.Mathlib.Omega.{arith}
 use Rattle.answers.proofs.Told.{refuses, handed_on}
-use Rattle.exam_rules.proofs.Opens.{opens_in, done-tells, standing}
-use Rattle.exam_rules.proofs.Parts.{t-small}
+use Rattle.exam_rules.proofs.Opens.{opens_in, done-tells}
 use Rattle.exam_appending.proofs.Appending.{directory-within, next_read, opened-refused, opened-appendable, bench-holds, adding, opened-done}
 use Rattle.exam_appending.proofs.append_opened.Goals as goal
 
@@ -18,7 +17,7 @@ slice_bounds-next_slot-end c = directory-within _ _ _ _ c.requires
 pub check_append-requires : goal.check_append-requires
 check_append-requires c =
     let in-l = opens_in _ _ _ (done-tells _ _ _ _ c.requires).0 in
-    (t-small _ _ (standing _ _ _ _ c.requires), omega (arith, in-l.long, in-l.is.trailer.small))
+    omega (arith, in-l.long, in-l.is.trailer.small)
 
 pub returns-in_err-check_append : goal.returns-in_err-check_append
 returns-in_err-check_append c =

@@ -1,10 +1,11 @@
 use mathlib.Core.Path.{sym, ◌∙◌}
 use native.Mathlib.Omega.{arith}
-use Rattle.exam_appending.proofs.Appending.{last_small, next_of, none-before}
+use Rattle.exam_rules.proofs.Listed.{listed-none}
+use Rattle.exam_appending.proofs.Appending.{last_small, next_of}
 use Rattle.exam_appending.proofs.next_slot.Goals as goal
 
 pub returns-in_default : goal.returns-in_default
-returns-in_default c = none-before c.args.directory.now (rw (c.chunks_exact.ensures.rest, c.chunks_exact.ensures.size) at c.in_default.ensures.steps.2.0)
+returns-in_default c = rw (listed-none c.args.directory.now (rw (c.chunks_exact.ensures.rest, c.chunks_exact.ensures.size) at c.in_default.ensures.steps.2.0))
 
 pub overflow_add-result : goal.overflow_add-result
 overflow_add-result c =

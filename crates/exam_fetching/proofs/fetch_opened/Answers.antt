@@ -1,12 +1,8 @@
 use mathlib.Core.Path.{refl}
 use Rattle.answers.proofs.Told.{refuses, handed_on}
 use Rattle.block_rules.proofs.Accept.{where_refused}
-use Rattle.exam_rules.proofs.Parts.{t-small}
 use Rattle.exam_fetching.proofs.Fetching.{not-there, its-block, opened-unpackable, opened-done}
 use Rattle.exam_fetching.proofs.fetch_opened.Goals as goal
-
-pub check_fetch-requires : goal.check_fetch-requires
-check_fetch-requires c = t-small _ _ c.requires
 
 pub returns-in_err-check_fetch : goal.returns-in_err-check_fetch
 returns-in_err-check_fetch c =

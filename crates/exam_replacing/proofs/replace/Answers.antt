@@ -2,7 +2,6 @@ use mathlib.Core.Path.{refl, sym}
 use native.Mathlib.Omega.{arith}
 use Rattle.answers.proofs.Told.{refuses, handed_on}
 use Rattle.exam_rules.proofs.Opens.{opens_in, done-tells, standing}
-use Rattle.exam_rules.proofs.Parts.{t-small}
 use Rattle.exam_opening.proofs.Finding.{not-opened, once-opened}
 use Rattle.exam_replacing.proofs.Replacing.{not_found, replace_not_done, stores, bench-holds, replacing, replace_done}
 use Rattle.exam_replacing.proofs.replace.Goals as goal
@@ -28,7 +27,7 @@ returns-in_err-part c =
 pub check_store-requires : goal.check_store-requires
 check_store-requires c =
     let in-l = opens_in _ _ _ (done-tells _ _ _ _ (sym c.in_ok-trailer.ensures)).0 in
-    (t-small _ _ (standing _ _ _ _ (sym c.in_ok-trailer.ensures)), omega (arith, in-l.long, in-l.is.trailer.small))
+    omega (arith, in-l.long, in-l.is.trailer.small)
 
 pub returns-in_err-check_store : goal.returns-in_err-check_store
 returns-in_err-check_store c =

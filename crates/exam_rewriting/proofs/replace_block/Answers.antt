@@ -32,8 +32,8 @@ overflow_sub-new_trailer c = omega (arith, lies _ _ _ _ _ _ c.requires)
 pub overflow_add-new_trailer : goal.overflow_add-new_trailer
 overflow_add-new_trailer c = omega (arith, lies _ _ _ _ _ _ c.requires)
 
-pub put_trailer-new_length-requires : goal.put_trailer-new_length-requires
-put_trailer-new_length-requires c =
+pub end_file-new_length-requires : goal.end_file-new_length-requires
+end_file-new_length-requires c =
     let lie = lies _ _ _ _ _ _ c.requires in
     (omega (arith, lie), lie.few)
 
@@ -43,4 +43,4 @@ wipe-requires c = omega (arith, lies _ _ _ _ _ _ c.requires)
 pub returns : goal.returns
 returns c =
     rewrites _ _ _ _ _ _ c.requires (λ i. (c.slice_known-1.given i).fits) _ _ _ _ _ _ c.resize.ensures c.exchange.ensures
-    c.put_trailer-new_length.ensures c.wipe.ensures (omega arith)
+    c.end_file-new_length.ensures c.wipe.ensures (omega arith)

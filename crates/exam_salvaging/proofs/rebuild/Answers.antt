@@ -10,10 +10,10 @@ slice_bounds-copy_in-end c = sym (length-take-le _ _ (found_within c.requires.fo
 pub copy_in-requires : goal.copy_in-requires
 copy_in-requires c = omega (arith, length-take-le c.args.found.end c.args.old.now (found_within c.requires.found), c.requires.room)
 
-pub put_trailer-requires : goal.put_trailer-requires
-put_trailer-requires c = (omega (arith, c.requires.room), found-few c.requires.found)
+pub end_file-requires : goal.end_file-requires
+end_file-requires c = (omega (arith, c.requires.room), found-few c.requires.found)
 
 pub returns : goal.returns
 returns c =
     rebuilt c.args.old.now c.args.found c.requires.found c.args.exam c.args.t c.args.file.now _ _ _ c.requires.room
-    c.copy_in.ensures c.put_entries.ensures _ c.put_trailer.ensures
+    c.copy_in.ensures c.put_entries.ensures _ c.end_file.ensures

@@ -9,8 +9,8 @@ use Rattle.exam_writing.proofs.create.Goals as goal
 pub returns-in_err-check_create : goal.returns-in_err-check_create
 returns-in_err-check_create c = rw (handed_on c.from_residual.ensures.1) (change_refused _ _ _ _ c.in_err-check_create.ensures (refuses _))
 
-pub put_trailer-requires : goal.put_trailer-requires
-put_trailer-requires c = ((create_takes _ _ _ (sym c.in_ok-check_create.ensures)).enough, omega arith)
+pub end_file-requires : goal.end_file-requires
+end_file-requires c = ((create_takes _ _ _ (sym c.in_ok-check_create.ensures)).enough, omega arith)
 
 pub returns : goal.returns
-returns c = create_done _ _ _ _ _ (sym c.in_ok-check_create.ensures) c.put_trailer.ensures
+returns c = create_done _ _ _ _ _ (sym c.in_ok-check_create.ensures) c.end_file.ensures
