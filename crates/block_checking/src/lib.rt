@@ -7,9 +7,9 @@ ghost use Rattle.block_rules.specs.Codes.{written};
 ghost use Rattle.block_rules.specs.Block.{count, halves, counted_codes, residual_length};
 ghost use Rattle.block_rules.specs.Numbers.{filler_stands};
 ghost use Rattle.block_rules.specs.Calls.{checked, checked_told};
-ghost use Rattle.block_rules.specs.Inside.{Counted};
 
 use answers::Refusal;
+use block_rules::CountedBlock;
 
 // The word count that a block declares.
 pub fn count(block: &[u8]) -> usize
@@ -48,23 +48,22 @@ fn all_written(bytes: &[u8]) -> u32
 }
 
 // How many residual bytes the counted codes have.
-fn residual_length(block: &[u8], n: usize) -> usize
-    requires { Counted block.now n }
-    ensures { result ≡ residual_length (counted_codes block.now) }
+fn residual_length(block: CountedBlock) -> usize
+    ensures { result ≡ residual_length (counted_codes block.entry.bytes.now) }
 {
-    let paired = all_written(&block[8..8 + n / 2]) as usize;
+    let n = block.count;
+    let paired = all_written(&block.bytes[8..8 + n / 2]) as usize;
     if n % 2 == 1 {
-        return paired + block_choice::written(half(block, n - 1));
+        return paired + block_choice::written(half(block.bytes, n - 1));
     }
     paired
 }
 
 // Whether an odd count has 7 as the last low half.
-fn filler_stands(block: &[u8], n: usize) -> bool
-    requires { Counted block.now n }
-    ensures { result ≡ filler_stands block.now }
+fn filler_stands(block: CountedBlock) -> bool
+    ensures { result ≡ filler_stands block.entry.bytes.now }
 {
-    n % 2 == 0 || half(block, n) == 7
+    block.count % 2 == 0 || half(block.bytes, block.count) == 7
 }
 
 // Checks a block. Answers its word count.
@@ -86,13 +85,17 @@ pub fn check(block: &[u8]) -> Result<usize, Refusal>
     if length < start {
         return Err(Refusal::Lengths);
     }
-    if length != start + residual_length(block, n) {
+    let counted = CountedBlock {
+        bytes: block,
+        count: n,
+    };
+    if length != start + residual_length(counted) {
         return Err(Refusal::Lengths);
     }
-    if !filler_stands(block, n) {
+    if !filler_stands(counted) {
         return Err(Refusal::Filler);
     }
-    if !block_padding::none_padded(block, n) {
+    if !block_padding::none_padded(counted) {
         return Err(Refusal::Padded);
     }
     Ok(n)

@@ -2,6 +2,8 @@
 // is promised of them in proofs/. Here are the structs that both the rules and the code speak of.
 #![tactic(auto)]
 
+ghost use Rattle.block_rules.specs.Inside.{Counted};
+
 // What the predictors carry from word to word beside their tables: the fcm hash, the dfcm hash and
 // the last word.
 #[derive(Clone, Copy)]
@@ -16,4 +18,12 @@ pub struct Carry {
 pub struct Coded {
     pub code: u8,
     pub residual: u64,
+}
+
+// A block that has all the codes that it counts: at most 65,536.
+#[derive(Clone, Copy)]
+pub struct CountedBlock<'a> {
+    pub bytes: &'a [u8],
+    pub count: usize,
+    pub ghost counted: { Counted bytes.now count },
 }

@@ -6,11 +6,11 @@ ghost use Rattle.std.specs.List.{sum_by};
 ghost use Rattle.block_rules.specs.Block.{counted_codes};
 ghost use Rattle.block_tallying.specs.Tally.{dfcm_words, tally, no_tally};
 ghost use Rattle.block_rules.specs.Numbers.{form_number};
-ghost use Rattle.block_rules.specs.Inside.{Counted};
 
 mod answer;
 
 pub use answer::Tally;
+use block_rules::CountedBlock;
 
 // How many of the two codes of a byte take their word from dfcm: their top bits, added in eight bits and
 // then widened, so that many bytes are done at a time.
@@ -37,11 +37,11 @@ fn dfcm_in_bytes(bytes: &[u8]) -> u16
 
 // How many of the counted codes take their word from dfcm. The last code byte stands by itself: of an
 // odd count its low half is the filler, and the bytes before it are few enough for sixteen bits.
-fn dfcm_words(block: &[u8], n: usize) -> usize
-    requires { Counted block.now n }
-    ensures { result ≡ dfcm_words (counted_codes block.now) }
+fn dfcm_words(block: CountedBlock) -> usize
+    ensures { result ≡ dfcm_words (counted_codes block.entry.bytes.now) }
 {
-    let Some((last, before)) = block[8..8 + (n + 1) / 2].split_last() else {
+    let n = block.count;
+    let Some((last, before)) = block.bytes[8..8 + (n + 1) / 2].split_last() else {
         return 0;
     };
     let sum = dfcm_in_bytes(before) as usize;
@@ -58,7 +58,11 @@ pub fn tally(block: &[u8]) -> Tally
     ensures { result ≡ tally block.now }
 {
     let n = block_checking::count(block);
-    let dfcm_words = dfcm_words(block, n);
+    let counted = CountedBlock {
+        bytes: block,
+        count: n,
+    };
+    let dfcm_words = dfcm_words(counted);
     Tally {
         fcm_words: n - dfcm_words,
         dfcm_words,

@@ -11,6 +11,7 @@ ghost use Rattle.block_choice.specs.Inside.{held, Able};
 ghost use Rattle.block_unpacking.specs.Inside.{Decodable, GetsWord, Getting, Gets};
 
 use block_choice::Predictors;
+use block_rules::CountedBlock;
 
 // The prediction that a code names.
 fn named_prediction(predictors: &Predictors, code: u8) -> u64
@@ -48,20 +49,22 @@ fn get_word(
     next
 }
 
-// Reads a block's n words, the tables being cleared. Two words a turn: a byte holds two codes.
-fn get_words(block: &[u8], n: usize, fcm: &mut [u64], dfcm: &mut [u64], words: &mut [u64])
-    requires { Getting block.now n fcm.old dfcm.old words.old }
-    ensures { Gets (t_of (length fcm.old)) block.now words.old fcm.new dfcm.new words.new }
+// Reads a block's words, the tables being cleared. Two words a turn: a byte holds two codes.
+fn get_words(block: CountedBlock, fcm: &mut [u64], dfcm: &mut [u64], words: &mut [u64])
+    requires { Getting block.bytes.now block.count fcm.old dfcm.old words.old }
+    ensures { Gets (t_of (length fcm.old)) block.entry.bytes.now words.old fcm.new dfcm.new words.new }
 {
+    let bytes = block.bytes;
+    let n = block.count;
     let mut predictors = Predictors::new(fcm, dfcm);
     let mut at = 8 + (n + 1) / 2;
-    for (j, &byte) in block[8..8 + n / 2].iter().enumerate() {
-        let middle = get_word(block, at, byte / 16, &mut predictors, words, 2 * j);
-        at = get_word(block, middle, byte % 16, &mut predictors, words, 2 * j + 1);
+    for (j, &byte) in bytes[8..8 + n / 2].iter().enumerate() {
+        let middle = get_word(bytes, at, byte / 16, &mut predictors, words, 2 * j);
+        at = get_word(bytes, middle, byte % 16, &mut predictors, words, 2 * j + 1);
     }
     if n % 2 == 1 {
-        let code = block_checking::half(block, n - 1);
-        get_word(block, at, code, &mut predictors, words, n - 1);
+        let code = block_checking::half(bytes, n - 1);
+        get_word(bytes, at, code, &mut predictors, words, n - 1);
     }
 }
 
@@ -73,6 +76,10 @@ pub fn unpack_all(block: &[u8], fcm: &mut [u64], dfcm: &mut [u64], words: &mut [
     words::clear(fcm);
     words::clear(dfcm);
     let n = block_checking::count(block);
-    get_words(block, n, fcm, dfcm, words);
+    let counted = CountedBlock {
+        bytes: block,
+        count: n,
+    };
+    get_words(counted, fcm, dfcm, words);
     n
 }

@@ -16,9 +16,6 @@ returns-then-get_bytes-length c = check_refused _ _ (misstated _ _ c.if-length-l
 pub returns-then-length-start : goal.returns-then-length-start
 returns-then-length-start c = check_refused _ _ (uneven _ _ c.if-length-lt8.false c.count-n.ensures c.if-n-gt65536.false _ c.get_bytes.ensures c.if-get_bytes-length.false (λ e. omega arith)) (λ z. omega arith)
 
-pub residual_length-requires : goal.residual_length-requires
-residual_length-requires c = record { count = c.count-n.ensures; few = c.if-n-gt65536.false; codes = c.if-length-start.false }
-
 pub overflow_add-start-3 : goal.overflow_add-start-3
 overflow_add-start-3 c =
     let block = c.args.block.now in
@@ -31,9 +28,6 @@ overflow_add-start-3 c =
 
 pub returns-then-length-start-2 : goal.returns-then-length-start-2
 returns-then-length-start-2 c = check_refused _ _ (uneven _ _ c.if-length-lt8.false c.count-n.ensures c.if-n-gt65536.false _ c.get_bytes.ensures c.if-get_bytes-length.false (λ e. omega (arith, c.residual_length.ensures, c.if-length-start-2.true))) (λ z. omega arith)
-
-pub filler_stands-requires : goal.filler_stands-requires
-filler_stands-requires c = record { count = c.count-n.ensures; few = c.if-n-gt65536.false; codes = c.if-length-start.false }
 
 pub returns-then-not-filler_stands : goal.returns-then-not-filler_stands
 returns-then-not-filler_stands c = check_refused _ _ (unfilled _ _ c.if-length-lt8.false c.count-n.ensures c.if-n-gt65536.false _ c.get_bytes.ensures c.if-get_bytes-length.false

@@ -11,10 +11,10 @@ overflow_add-result c = omega (arith, c.written.ensures, written_small c.half.re
 
 pub returns-then-n-eq1 : goal.returns-then-n-eq1
 returns-then-n-eq1 c =
-    let pairs : 8 + c.args.n / 2 - 8 ≡ c.args.n / 2 = omega arith in
-    omega (arith, rw pairs at c.all_written-paired.ensures, rw c.half.ensures at c.written.ensures, weight_odd written _ (λ byte. refl) _ _ c.requires c.if-n-eq1.true, lengths_added (counted_codes c.args.block.now))
+    let pairs : 8 + c.args.block.count / 2 - 8 ≡ c.args.block.count / 2 = omega arith in
+    omega (arith, rw pairs at c.all_written-paired.ensures, rw c.half.ensures at c.written.ensures, weight_odd written _ (λ byte. refl) _ _ c.args.block.counted c.if-n-eq1.true, lengths_added (counted_codes c.args.block.bytes.now))
 
 pub returns : goal.returns
 returns c =
-    let pairs : 8 + c.args.n / 2 - 8 ≡ c.args.n / 2 = omega arith in
-    (rw pairs at c.all_written-paired.ensures) ∙ sym (lengths_added _ ∙ weight_even written _ (λ byte. refl) _ _ c.requires c.if-n-eq1.false)
+    let pairs : 8 + c.args.block.count / 2 - 8 ≡ c.args.block.count / 2 = omega arith in
+    (rw pairs at c.all_written-paired.ensures) ∙ sym (lengths_added _ ∙ weight_even written _ (λ byte. refl) _ _ c.args.block.counted c.if-n-eq1.false)

@@ -7,8 +7,8 @@ use Rattle.block_tallying.proofs.tally.Goals as goal
 pub count-n-requires : goal.count-n-requires
 count-n-requires c = (form_tells _ c.requires).long
 
-pub dfcm_words-dfcm_words-requires : goal.dfcm_words-dfcm_words-requires
-dfcm_words-dfcm_words-requires c = whole-counted _ _ (form_tells _ c.requires) c.count-n.ensures
+pub invariant_of-counted : goal.invariant_of-counted
+invariant_of-counted c = record { counted = whole-counted _ _ (form_tells _ c.requires) c.count-n.ensures }
 
 pub overflow_sub-result : goal.overflow_sub-result
 overflow_sub-result c =
