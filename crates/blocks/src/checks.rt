@@ -16,7 +16,8 @@ fn is_table_length(n: usize) -> bool
     n == 1usize << t
 }
 
-// Refuses tables that differ in length or are no tables.
+// Refuses tables that differ in length or are no tables. (Two lengths, and no pair of them: whether they are
+// equal is what is asked first.)
 fn check_tables(fcm: usize, dfcm: usize) -> Result<(), Refusal>
     ensures { number_told result ≡ tables_number fcm dfcm }
 {

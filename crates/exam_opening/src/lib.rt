@@ -43,7 +43,8 @@ fn index_of(directory: &[u8], slot: u32) -> Option<usize>
         .position(|entry| words::get_bytes(entry, 0, 4) == slot as u64)
 }
 
-// Where the block of a slot stands in a file, and its entry among the entries.
+// Where the block of a slot stands in a file, and its entry among the entries. (From start to end, for those
+// who take the part; `BlockPlace` has offset and size, as C is told them.)
 #[derive(Clone, Copy)]
 pub struct Part {
     pub index: usize,
