@@ -94,7 +94,7 @@ pub fn append(
     ensures { Appends file.old length exam slot words.now fcm.old dfcm.old bench.old (made_told result) file.new fcm.new dfcm.new bench.new }
 {
     let opened = exam_opening::open(&file[..], length, exam);
-    // An opening is taken apart so in every call; elsewhere `?` hands a refusal on.
+    // The rules name this form for an opening, in `find`, `fetch` and `append`; elsewhere `?` hands a refusal on.
     let Ok(trailer) = opened else {
         return Err(opened.unwrap_err());
     };

@@ -56,7 +56,7 @@ pub fn fetch(
     ensures { Fetches file.now length exam slot fcm.old dfcm.old words.old (unpacked_told result) fcm.new dfcm.new words.new }
 {
     let opened = exam_opening::open(file, length, exam);
-    // An opening is taken apart so in every call; elsewhere `?` hands a refusal on.
+    // The rules name this form for an opening, in `find`, `fetch` and `append`; elsewhere `?` hands a refusal on.
     let Ok(trailer) = opened else {
         return Err(opened.unwrap_err());
     };
