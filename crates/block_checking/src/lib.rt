@@ -95,7 +95,7 @@ pub fn check(block: &[u8]) -> Result<usize, Refusal>
     if !filler_stands(counted) {
         return Err(Refusal::Filler);
     }
-    if !block_padding::none_padded(counted) {
+    if !block_padding::none_padded(block, n) {
         return Err(Refusal::Padded);
     }
     Ok(n)

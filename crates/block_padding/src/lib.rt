@@ -8,7 +8,6 @@ ghost use Rattle.block_rules.specs.Inside.{Spanned, coded_at};
 ghost use Rattle.block_padding.specs.Inside.{least_top};
 
 use block_choice::written_by_table;
-use block_rules::CountedBlock;
 
 // The least number that the two top residual bytes of a code may make: a table, as block_choice's of the
 // bytes written, since a walk over all codes has little else to do.
@@ -38,29 +37,28 @@ fn padded(block: &[u8], tops: usize, code: u8) -> u64
     (65535 + least_top(code) - words::load_two(block, tops)) / 65536
 }
 
-// Whether none of a block's codes is padded. Two codes a turn: a byte holds two. A turn waits for the
+// Whether none of a block's n codes is padded. Two codes a turn: a byte holds two. A turn waits for the
 // one before only in its place and in the faults so far. These are two sums, one for each code of a byte:
 // in one sum the two would wait for each other.
-pub fn none_padded(block: CountedBlock) -> bool
-    requires { Spanned block.bytes.now block.count }
-    ensures { result ≡ none_padded (coded_in block.entry.bytes.now) }
+// No CountedBlock here: `Spanned` says all that it holds, and a call would pass its three words by memory.
+pub fn none_padded(block: &[u8], n: usize) -> bool
+    requires { Spanned block.now n }
+    ensures { result ≡ none_padded (coded_in block.now) }
 {
-    let bytes = block.bytes;
-    let n = block.count;
     let pairs = n / 2;
     let mut tops = 6 + (n + 1) / 2;
     let mut high_faults: u64 = 0;
     let mut low_faults: u64 = 0;
-    for &byte in &bytes[8..8 + pairs] {
+    for &byte in &block[8..8 + pairs] {
         let middle = tops + written_by_table(byte / 16);
         tops = middle + written_by_table(byte % 16);
-        high_faults += padded(bytes, middle, byte / 16);
-        low_faults += padded(bytes, tops, byte % 16);
+        high_faults += padded(block, middle, byte / 16);
+        low_faults += padded(block, tops, byte % 16);
     }
     let faults = high_faults + low_faults;
     if n % 2 == 1 {
-        let code = bytes[8 + pairs] / 16;
-        return faults + padded(bytes, tops + written_by_table(code), code) == 0;
+        let code = block[8 + pairs] / 16;
+        return faults + padded(block, tops + written_by_table(code), code) == 0;
     }
     faults == 0
 }

@@ -49,7 +49,8 @@ fn get_word(
     next
 }
 
-// Reads a block's words, the tables being cleared. Two words a turn: a byte holds two codes.
+// Reads a block's words, the tables being cleared. Two words a turn: a byte holds two codes. (By number: of
+// what a zip over `iter_mut` writes, nothing is known afterwards.)
 fn get_words(block: CountedBlock, fcm: &mut [u64], dfcm: &mut [u64], words: &mut [u64])
     requires { Getting block.bytes.now block.count fcm.old dfcm.old words.old }
     ensures { Gets (t_of (length fcm.old)) block.entry.bytes.now words.old fcm.new dfcm.new words.new }

@@ -10,7 +10,7 @@ use std::io::{Read, Write};
 use streams::Failure;
 
 // Lists what was read, and writes the text or the refusal. 66 bytes and 23 for each of 1,024 slots are
-// room for every text.
+// room for every text. (For what the packer has like it, see there.)
 fn answer_input<O: Write, E: Write>(input: &[u8], output: &mut O, errors: &mut E) -> io::Result<()>
     ensures output { OnOk result
         (Appends (O.contents output.old) (O.contents output.new) (lister_output input.now)) }

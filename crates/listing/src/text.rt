@@ -11,7 +11,8 @@ use exam_rules::Trailer;
 use itoa::Buffer;
 
 // A text in the first bytes of what was lent for it. Each method puts more behind it. (`write!` answers
-// a Result, and nothing could say that it never fails; here there is room, so nothing can.)
+// a Result, and nothing could say that it never fails; here there is room, so nothing can. That there is
+// room is said of the bytes that are to be put, so it is no invariant of the text.)
 #[derive(Drop)]
 struct Text<'a> {
     bytes: &'a mut [u8],

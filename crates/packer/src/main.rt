@@ -11,7 +11,8 @@ use std::io;
 use std::io::{Read, Write};
 use streams::Failure;
 
-// Packs what was read, and writes the block or the refusal.
+// Packs what was read, and writes the block or the refusal. (As the lister has it for its text: a function
+// for both would be longer than these, and would take output and errors apart from what they are for.)
 fn answer_input<O: Write, E: Write>(input: &[u8], output: &mut O, errors: &mut E) -> io::Result<()>
     ensures output { OnOk result
         (Appends (O.contents output.old) (O.contents output.new) (packer_output input.now)) }

@@ -55,7 +55,7 @@ pub fn read_input<R: Read>(reader: &mut R, buffer: &mut [u8]) -> Result<usize, F
     Ok(count)
 }
 
-// Says a refusal's number. (A number, so that a program may tell one that the library does not have.)
+// Says a refusal's number. (Any number, as the test `says_what_happened` gives it.)
 pub fn say_refused<W: Write>(writer: &mut W, number: u32) -> io::Result<()>
     ensures { OnOk result (Appends (W.contents writer.old) (W.contents writer.new) (refusal number)) }
 {

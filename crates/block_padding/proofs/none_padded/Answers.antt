@@ -9,12 +9,12 @@ loop-byte-init c = walking_starts _ _ _ c.requires (omega arith)
 pub overflow_add-middle : goal.overflow_add-middle
 overflow_add-middle c =
     let within = pair_within _ _ _ _ _ _ _ _ _ c.requires c.loop-byte.invariant c.loop-byte-test.true refl c.written_by_table.ensures refl in
-    omega (arith, within)
+    omega (arith, within, c.well_formed.0.0)
 
 pub overflow_add-tops-in-loop-byte : goal.overflow_add-tops-in-loop-byte
 overflow_add-tops-in-loop-byte c =
     let within = pair_within _ _ _ _ _ _ _ _ _ c.requires c.loop-byte.invariant c.loop-byte-test.true refl c.written_by_table.ensures c.written_by_table-in-loop-byte.ensures in
-    omega (arith, within)
+    omega (arith, within, c.well_formed.0.0)
 
 pub padded-high_faults-requires : goal.padded-high_faults-requires
 padded-high_faults-requires c =
@@ -37,7 +37,7 @@ loop-byte-preserved c =
 pub overflow_add-tops-then-n-eq1 : goal.overflow_add-tops-then-n-eq1
 overflow_add-tops-then-n-eq1 c =
     let within = last_within _ _ _ _ _ _ _ c.requires c.loop-byte.invariant c.loop-byte-test.false c.if-n-eq1.true refl c.written_by_table-then-n-eq1.ensures in
-    omega (arith, within)
+    omega (arith, within, c.well_formed.0.0)
 
 pub padded-requires : goal.padded-requires
 padded-requires c =
