@@ -70,7 +70,7 @@ pub fn tally(block: &[u8]) -> Tally
     }
 }
 
-// The tally of a refusal: its numbers are 0, for a call that tells them beside one.
+// The tally of a refusal, where nothing was read: all its numbers are 0.
 pub fn no_tally() -> Tally
     ensures { result ≡ no_tally }
 {
