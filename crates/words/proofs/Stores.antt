@@ -72,7 +72,8 @@ put_more part j k x whole h p =
 pub join : (b c d xs ys : List ℕ) (i j : ℕ) → c ≡ sets b i xs → d ≡ sets c j ys → j ≡ i + length xs → d ≡ sets b i (xs ++ ys)
 join b c d xs ys i j p q e = q ∙ rw (p, e) (sym (sets-append b i xs ys))
 
--- the bytes at a place, put there again, change nothing
+-- the bytes at a place, put there again, change nothing: so nothing has to be
+-- done for bytes that stay where they are
 pub put_again : (b : List ℕ) (at k : ℕ) → at + k ≤ length b → sets b at (take k (drop at b)) ≡ b
 put_again b at k h =
     let x = take k (drop at b) in
