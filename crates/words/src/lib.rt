@@ -82,11 +82,12 @@ pub fn load_bytes(src: &[u8], at: usize, k: usize) -> u64
     load_eight(src, at - before) >> (8 * before)
 }
 
-// Whether two slices hold the same bytes.
+// Whether two slices hold the same bytes. (`a == b` compares the first bytes and then calls the library for
+// the rest, and opening a file took up to a third longer.)
 pub fn same(a: &[u8], b: &[u8]) -> bool
     ensures { result ≡ same_bytes a.now b.now }
 {
-    a == b
+    a.len() == b.len() && b.starts_with(a)
 }
 
 // Copies the bytes of src to a place of out. (`copy_from_slice` would have the compiler call C's
