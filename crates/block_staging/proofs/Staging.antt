@@ -12,6 +12,7 @@ use Rattle.block_rules.proofs.Codes.{written_small}
 use Rattle.block_rules.proofs.Choices.{chosen-fcm, chosen-dfcm, coded-small}
 use Rattle.block_rules.proofs.Choices.{zero_by_fcm, zero_by_dfcm}
 use Rattle.block_rules.proofs.Lengths.{length_residual}
+use Rattle.std.specs.Borrow.{GName}
 use Rattle.block_staging.specs.Waiting.{Waiting}
 use Rattle.block_staging.specs.Inside.{Adds, StagesChosen, StagesWord, StagesPair}
 use Rattle.block_choice.specs.Inside.{held, size, Becomes}
@@ -39,21 +40,22 @@ eight_staged stage staged k x h l =
 -- ---- the chosen residual
 
 -- of the eight bytes stored those of the code are staged
-pub code_staged : (bytes bytes' : List ℕ) (staged : ℕ) (c : Coded) (k : ℕ) → staged + 8 ≤ length bytes → k ≡ written c.code → bytes' ≡ sets bytes staged (low_bytes 8 c.residual)
-    → Adds (record { held = take staged bytes; room = length bytes - staged }) (residual_bytes c) (record { held = take (staged + k) bytes'; room = length bytes' - (staged + k) })
+pub code_staged : (b : GName) (bytes bytes' : List ℕ) (staged : ℕ) (c : Coded) (k : ℕ) → staged + 8 ≤ length bytes → k ≡ written c.code → bytes' ≡ sets bytes staged (low_bytes 8 c.residual)
+    → Adds (record { held = take staged bytes; room = length bytes - staged; buffer = b }) (residual_bytes c) (record { held = take (staged + k) bytes'; room = length bytes' - (staged + k); buffer = b })
 unfolding residual_bytes
-code_staged bytes bytes' staged c k h e q =
+code_staged b bytes bytes' staged c k h e q =
     let same : length bytes' ≡ length bytes = ap length q ∙ length-sets bytes staged (low_bytes 8 c.residual) in
     let few : k ≤ 8 = rw e (written_small c.code) in
     record {
       held = rw (q, e) (eight_staged bytes staged (written c.code) c.residual h (written_small c.code));
       same_whole = omega (arith, same, few, length-take-le staged bytes (omega arith), length-take-le (staged + k) bytes' (omega arith));
+      same_buffer = refl;
     }
 
 -- a residual of 0 has nothing to stage
 nothing_staged : (stage : Waiting) (code : ℕ) (c : Coded) → c ≡ record { code = code; residual = 0 } → written code ≡ 0 → StagesChosen stage c stage code
 unfolding residual_bytes
-nothing_staged stage code c e z = record { code_is = sym (ap (λ (y : Coded). y.code) e); adds = record { held = rw (e, z) (sym (append-nil _)); same_whole = refl } }
+nothing_staged stage code c e z = record { code_is = sym (ap (λ (y : Coded). y.code) e); adds = record { held = rw (e, z) (sym (append-nil _)); same_whole = refl; same_buffer = refl } }
 
 pub fcm_zero : (stage : Waiting) (f d : ℕ) → f ≡ 0 → StagesChosen stage (chosen dfcm_chosen f d) stage 7
 unfolding coded_by low_three written
@@ -92,7 +94,7 @@ module _ {p p' : Predictors} {v : ℕ} {stage stage' : Waiting} {code : ℕ} (s 
   word_room = omega (arith, s.adds.same_whole, word_bytes)
 
 adds-then : (s s₁ s' : Waiting) (xs ys : List ℕ) → Adds s xs s₁ → Adds s₁ ys s' → Adds s (xs ++ ys) s'
-adds-then s s₁ s' xs ys a b = record { held = b.held ∙ rw a.held (append_assoc s.held xs ys); same_whole = b.same_whole ∙ a.same_whole }
+adds-then s s₁ s' xs ys a b = record { held = b.held ∙ rw a.held (append_assoc s.held xs ys); same_whole = b.same_whole ∙ a.same_whole; same_buffer = b.same_buffer ∙ a.same_buffer }
 
 pub pair_staged : (p p₁ p' : Predictors) (v w : ℕ) (stage stage₁ stage' : Waiting) (one two : ℕ)
     → StagesWord p v stage p₁ stage₁ one → StagesWord p₁ w stage₁ p' stage' two → StagesPair p v w stage p' stage' (one * 16 + two)

@@ -1,5 +1,6 @@
 -- What the inner functions require and ensure. No promise of a call is stated here.
-use Rattle.std.specs.Prelude.{◌≡◌, ℕ, ◌+◌, ◌*◌, ◌≤◌, List, ◌++◌, length}
+use Rattle.std.specs.Prelude.{◌≡◌, ℕ, ◌+◌, ◌-◌, ◌*◌, ◌≤◌, List, ◌++◌, length, take}
+use Rattle.std.specs.Borrow.{MutBor}
 use Rattle.std.proofs.lemmas.List.Edits.{sets}
 use Rattle.block_rules.specs.Predictors.{learn}
 use Rattle.block_rules.specs.Codes.{dfcm_chosen, coded_word, residual_bytes}
@@ -12,10 +13,18 @@ use Rattle.block_staging.specs.Waiting.{Waiting, whole}
 abbrev pub most_staged : ℕ
 most_staged = 464
 
+-- of a lent buffer so many first bytes wait, and the others have room
+pub record Holds (bytes : MutBor (List ℕ)) (staged : ℕ) (stage : Waiting) : Type 0 where
+  pub held : stage.held ≡ take staged bytes.now
+  pub count : length stage.held ≡ staged
+  pub room : stage.room ≡ length bytes.now - staged
+  pub same_buffer : stage.buffer ≡ bytes.ghost_name
+
 -- bytes are added to those that wait, in the same buffer
 pub record Adds (stage : Waiting) (bytes : List ℕ) (stage' : Waiting) : Type 0 where
   pub held : stage'.held ≡ stage.held ++ bytes
   pub same_whole : whole stage' ≡ whole stage
+  pub same_buffer : stage'.buffer ≡ stage.buffer
 
 -- the residual bytes of a coded residual are staged, and its code is answered
 pub record StagesChosen (stage : Waiting) (c : Coded) (stage' : Waiting) (code : ℕ) : Type 0 where
@@ -38,6 +47,7 @@ pub record StagesPair (p : Predictors) (v w : ℕ) (stage : Waiting) (p' : Predi
 pub record MakesRoom (out : List ℕ) (stage : Waiting) (at : ℕ) (out' : List ℕ) (stage' : Waiting) (at' : ℕ) : Type 0 where
   pub few : length stage'.held ≤ most_staged
   pub same_whole : whole stage' ≡ whole stage
+  pub same_buffer : stage'.buffer ≡ stage.buffer
   pub from : at ≤ at'
   pub same : at' + length stage'.held ≡ at + length stage.held
   pub held : sets out' at' stage'.held ≡ sets out at stage.held

@@ -8,7 +8,7 @@ ghost use Rattle.words.specs.Words.{xor};
 ghost use Rattle.words.specs.Bytes.{low_bytes};
 ghost use Rattle.block_rules.specs.Codes.{dfcm_chosen, chosen, residual_bytes};
 ghost use Rattle.block_choice.specs.Inside.{Able};
-ghost use Rattle.block_staging.specs.Inside.{Adds, StagesChosen, StagesWord, StagesPair, MakesRoom};
+ghost use Rattle.block_staging.specs.Inside.{Adds, Holds, StagesChosen, StagesWord, StagesPair, MakesRoom};
 
 use block_choice::Predictors;
 use block_rules::Coded;
@@ -29,7 +29,7 @@ impl<'a> Model for Stage<'a> {
 
     ghost Value = { Waiting };
 
-    ghost view = { λ s. record { held = take s.staged s.bytes.now; room = length s.bytes.now - s.staged } };
+    ghost view = { λ s. record { held = take s.staged s.bytes.now; room = length s.bytes.now - s.staged; buffer = s.bytes.ghost_name } };
 
     ghost invariant = { λ s. s.staged ≤ length s.bytes.now };
 }
@@ -37,9 +37,24 @@ impl<'a> Model for Stage<'a> {
 impl<'a> Stage<'a> {
     // A stage where nothing waits. It has room for as many bytes as the buffer.
     pub fn new(bytes: &'a mut [u8]) -> Self
-        ensures { (result.held ≡ []) × (result.room ≡ length bytes.old) }
+        ensures { (result.held ≡ []) × (result.room ≡ length bytes.old) × (result.buffer ≡ bytes.entry.ghost_name) }
     {
         Stage { bytes, staged: 0 }
+    }
+
+    // A stage where the first bytes of the buffer wait already.
+    pub fn holding(bytes: &'a mut [u8], staged: usize) -> Self
+        requires { staged ≤ length bytes.old }
+        ensures { Holds bytes.entry staged result }
+    {
+        Stage { bytes, staged }
+    }
+
+    // The buffer again, and how many of its first bytes wait.
+    pub fn into_parts(self) -> (&'a mut [u8], usize)
+        ensures { Holds result.0 result.1 self.entry }
+    {
+        (self.bytes, self.staged)
     }
 
     // Adds the residual bytes of a code.

@@ -13,4 +13,4 @@ invariant_of-self c = omega (arith, c.store_eight.auto.stage, c.written_by_table
 pub returns : goal.returns
 returns c =
     let room : c.self.inside.staged + 8 ≤ length c.self.inside.bytes.now = omega (arith, ap (λ (w : Waiting). w.room) c.self.view_is, c.requires) in
-    rw (← c.self.view_is) (code_staged _ _ _ c.args.coded _ room c.written_by_table.ensures c.store_eight.ensures)
+    rw (← c.self.view_is) (code_staged _ _ _ _ c.args.coded _ room c.written_by_table.ensures c.store_eight.ensures)
